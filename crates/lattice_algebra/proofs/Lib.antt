@@ -1,0 +1,10 @@
+pub mod Ring
+pub mod MatrixRing
+pub mod Machine
+pub mod Numbers
+pub mod Remainders
+pub mod Columns
+pub mod Matrices
+pub mod Equality
+pub mod Maps
+pub mod Operators

@@ -1,0 +1,3 @@
+pub mod Matrix
+pub mod Operator
+pub mod Map
