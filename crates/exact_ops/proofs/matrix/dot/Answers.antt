@@ -1,0 +1,44 @@
+use Rattle.std.proofs.Common.{List, ℕ, ℤ, [], ◌∷◌, ◌-◌, w32}
+use Rattle.lattice_algebra.proofs.Ring.{Expr, var, ◌⊕◌, ◌⊗◌}
+use Rattle.lattice_algebra.proofs.Machine.{IsWithin, fits, computed, computed-size}
+use Rattle.exact_ops.specs.declared.TheConstants.{UNIT}
+use Rattle.exact_ops.proofs.matrix.dot.Goals as goal
+
+abbrev bounds : List ℕ
+bounds = 2 ∷ 2 ∷ 2 ∷ (UNIT - 1) ∷ (UNIT - 1) ∷ (UNIT - 1) ∷ []
+
+abbrev two : Expr
+two = var 0 ⊗ var 3 ⊕ var 1 ⊗ var 4
+
+abbrev three : Expr
+three = two ⊕ var 2 ⊗ var 5
+
+abbrev numbers : goal.Start → List ℤ
+numbers c = c.args.a ∷ c.args.b ∷ c.args.c ∷ c.args.x ∷ c.args.y ∷ c.args.z ∷ []
+
+within : (c : goal.Start) → IsWithin bounds (numbers c)
+within c =
+    let l = c.requires.left in
+    let r = c.requires.right in
+    (l.first, (l.second, (l.third, (r.first, (r.second, (r.third, tt))))))
+
+pub overflow_add-result : goal.overflow_add-result
+overflow_add-result c = fits w32 bounds (numbers c) two (within c) tt
+
+pub overflow_add-result-2 : goal.overflow_add-result-2
+overflow_add-result-2 c = fits w32 bounds (numbers c) three (within c) tt
+
+pub returns-clause-value : goal.returns-clause-value
+returns-clause-value c = computed w32 bounds (numbers c) three (within c) tt
+
+pub returns-clause-size : goal.returns-clause-size
+returns-clause-size c = computed-size w32 bounds (numbers c) three (within c) tt
+
+-- an entry of a product of two matrices
+abbrev entry_bounds : List ℕ
+entry_bounds = 2 ∷ 2 ∷ 2 ∷ 2 ∷ 2 ∷ 2 ∷ []
+
+pub returns-clause-entry_size : goal.returns-clause-entry_size
+returns-clause-entry_size c =
+    let l = c.requires.left in
+    λ r. computed-size w32 entry_bounds (numbers c) three (l.first, (l.second, (l.third, (r.first, (r.second, (r.third, tt)))))) tt

@@ -1,0 +1,250 @@
+ghost use Rattle.std.specs.Prelude.{◌≡◌, ◌≤◌, ◌↔◌, ◌*◌, ◌-◌, IsTrue, unsigned_abs, pos, ◌+ℤ◌, ◌-ℤ◌, ◌*ℤ◌};
+ghost use Rattle.std.specs.Int.{int_rem_euclid};
+ghost use Rattle.lattice_algebra.specs.Matrix.{sum_of_products, entries, matrix_of, column_of, coordinates, det, adjugate, scaled, neg_column, IsUnimodular, ◌·◌, ◌·ᶜ◌, ◌+ᶜ◌};
+ghost use Rattle.lattice_algebra.specs.Operator.{modulo, IsPart, AreParts, AreWithin, HasEntriesWithin};
+ghost use Rattle.exact_ops.specs.Fields.{matrix_in, column_in};
+
+use crate::UNIT;
+
+/// The entries of a matrix: `xy` stands in the row x and the column y.
+#[derive(Clone, Copy, PartialEq, Eq, Debug, Drop)]
+pub struct Rotation {
+    pub xx: i32,
+    pub xy: i32,
+    pub xz: i32,
+    pub yx: i32,
+    pub yy: i32,
+    pub yz: i32,
+    pub zx: i32,
+    pub zy: i32,
+    pub zz: i32,
+}
+
+/// A column, in parts of a cell.
+#[derive(Clone, Copy, PartialEq, Eq, Debug, Drop)]
+pub struct Translation {
+    pub x: i32,
+    pub y: i32,
+    pub z: i32,
+}
+
+impl Rotation {
+    pub const IDENTITY: Rotation = Rotation {
+        xx: 1,
+        xy: 0,
+        xz: 0,
+        yx: 0,
+        yy: 1,
+        yz: 0,
+        zx: 0,
+        zy: 0,
+        zz: 1,
+    };
+
+    pub fn of(rows: &[i32; 9]) -> Rotation
+        ensures { matrix_in result ≡ matrix_of rows.now }
+    {
+        Rotation {
+            xx: rows[0],
+            xy: rows[1],
+            xz: rows[2],
+            yx: rows[3],
+            yy: rows[4],
+            yz: rows[5],
+            zx: rows[6],
+            zy: rows[7],
+            zz: rows[8],
+        }
+    }
+
+    pub fn rows(&self) -> [i32; 9]
+        ensures { result ≡ entries (matrix_in self.now) }
+    {
+        [
+            self.xx, self.xy, self.xz, self.yx, self.yy, self.yz, self.zx, self.zy, self.zz,
+        ]
+    }
+
+    /// Whether each entry is at most this in size.
+    pub fn is_within(&self, limit: u32) -> bool
+        ensures { IsTrue result ↔ HasEntriesWithin limit (matrix_in self.now) }
+    {
+        if !are_within(limit, self.xx, self.xy, self.xz) {
+            return false;
+        }
+        if !are_within(limit, self.yx, self.yy, self.yz) {
+            return false;
+        }
+        are_within(limit, self.zx, self.zy, self.zz)
+    }
+
+    /// The cofactor formula.
+    pub fn determinant(&self) -> i64
+        requires { HasEntriesWithin 2304 (matrix_in self.now) }
+        ensures { result ≡ det (matrix_in self.now) }
+    {
+        let a = i64::from(self.xx);
+        let b = i64::from(self.xy);
+        let c = i64::from(self.xz);
+        let d = i64::from(self.yx);
+        let e = i64::from(self.yy);
+        let f = i64::from(self.yz);
+        let g = i64::from(self.zx);
+        let h = i64::from(self.zy);
+        let i = i64::from(self.zz);
+        a * (e * i - f * h) - b * (d * i - f * g) + c * (d * h - e * g)
+    }
+
+    /// Whether it has a whole inverse.
+    pub fn is_unimodular(&self) -> bool
+        requires { HasEntriesWithin 2304 (matrix_in self.now) }
+        ensures { IsTrue result ↔ IsUnimodular (matrix_in self.now) }
+    {
+        let d = self.determinant();
+        d == 1 || d == -1
+    }
+
+    /// The determinant of a matrix that has a whole inverse.
+    pub fn sign(&self) -> i32
+        requires small { HasEntriesWithin 2304 (matrix_in self.now) }
+        requires unimodular { IsUnimodular (matrix_in self.now) }
+        ensures sign { unsigned_abs result ≤ 1 }
+        ensures value { result ≡ det (matrix_in self.now) }
+    {
+        if self.determinant() == 1 { 1 } else { -1 }
+    }
+
+    /// Self after first.
+    pub fn after(&self, first: &Rotation) -> Rotation
+        requires left { HasEntriesWithin 2 (matrix_in self.now) }
+        requires right { HasEntriesWithin 2 (matrix_in first.now) }
+        ensures { matrix_in result ≡ matrix_in self.now · matrix_in first.now }
+    {
+        Rotation {
+            xx: dot(self.xx, self.xy, self.xz, first.xx, first.yx, first.zx),
+            xy: dot(self.xx, self.xy, self.xz, first.xy, first.yy, first.zy),
+            xz: dot(self.xx, self.xy, self.xz, first.xz, first.yz, first.zz),
+            yx: dot(self.yx, self.yy, self.yz, first.xx, first.yx, first.zx),
+            yy: dot(self.yx, self.yy, self.yz, first.xy, first.yy, first.zy),
+            yz: dot(self.yx, self.yy, self.yz, first.xz, first.yz, first.zz),
+            zx: dot(self.zx, self.zy, self.zz, first.xx, first.yx, first.zx),
+            zy: dot(self.zx, self.zy, self.zz, first.xy, first.yy, first.zy),
+            zz: dot(self.zx, self.zy, self.zz, first.xz, first.yz, first.zz),
+        }
+    }
+
+    /// Sign times the adjugate, which is the inverse where sign is the determinant.
+    pub fn scaled_adjugate(&self, sign: i32) -> Rotation
+        requires sign { unsigned_abs sign ≤ 1 }
+        requires narrow { HasEntriesWithin 2 (matrix_in self.now) }
+        ensures { matrix_in result ≡ scaled sign (adjugate (matrix_in self.now)) }
+    {
+        Rotation {
+            xx: cofactor(sign, self.yy, self.zz, self.yz, self.zy),
+            xy: cofactor(sign, self.xz, self.zy, self.xy, self.zz),
+            xz: cofactor(sign, self.xy, self.yz, self.xz, self.yy),
+            yx: cofactor(sign, self.yz, self.zx, self.yx, self.zz),
+            yy: cofactor(sign, self.xx, self.zz, self.xz, self.zx),
+            yz: cofactor(sign, self.xz, self.yx, self.xx, self.yz),
+            zx: cofactor(sign, self.yx, self.zy, self.yy, self.zx),
+            zy: cofactor(sign, self.xy, self.zx, self.xx, self.zy),
+            zz: cofactor(sign, self.xx, self.yy, self.xy, self.yx),
+        }
+    }
+}
+
+impl Translation {
+    pub const ZERO: Translation = Translation { x: 0, y: 0, z: 0 };
+
+    pub fn of(numbers: &[i32; 3]) -> Translation
+        ensures { column_in result ≡ column_of numbers.now }
+    {
+        Translation {
+            x: numbers[0],
+            y: numbers[1],
+            z: numbers[2],
+        }
+    }
+
+    pub fn numbers(&self) -> [i32; 3]
+        ensures { result ≡ coordinates (column_in self.now) }
+    {
+        [self.x, self.y, self.z]
+    }
+
+    /// Whether each number is at least 0 and below `UNIT`.
+    pub fn is_in_cell(&self) -> bool
+        ensures { IsTrue result ↔ AreParts UNIT (column_in self.now) }
+    {
+        is_part(self.x) && is_part(self.y) && is_part(self.z)
+    }
+
+    /// Its image under the matrix, and t more, modulo the cell.
+    pub fn moved(&self, w: &Rotation, t: &Translation) -> Translation
+        requires narrow { HasEntriesWithin 2 (matrix_in w.now) }
+        requires from { AreWithin (UNIT - 1) self.now.x self.now.y self.now.z }
+        requires by { AreWithin (UNIT - 1) t.now.x t.now.y t.now.z }
+        ensures { column_in result ≡ modulo UNIT (matrix_in w.now ·ᶜ column_in self.now +ᶜ column_in t.now) }
+    {
+        Translation {
+            x: place(w.xx, w.xy, w.xz, self.x, self.y, self.z, t.x),
+            y: place(w.yx, w.yy, w.yz, self.x, self.y, self.z, t.y),
+            z: place(w.zx, w.zy, w.zz, self.x, self.y, self.z, t.z),
+        }
+    }
+
+    pub fn negated(&self) -> Translation
+        requires { AreWithin (UNIT - 1) self.now.x self.now.y self.now.z }
+        ensures value { column_in result ≡ neg_column (column_in self.now) }
+        ensures size { AreWithin (UNIT - 1) result.x result.y result.z }
+    {
+        Translation {
+            x: -self.x,
+            y: -self.y,
+            z: -self.z,
+        }
+    }
+}
+
+pub fn are_within(limit: u32, a: i32, b: i32, c: i32) -> bool
+    ensures { IsTrue result ↔ AreWithin limit a b c }
+{
+    a.unsigned_abs() <= limit && b.unsigned_abs() <= limit && c.unsigned_abs() <= limit
+}
+
+fn is_part(n: i32) -> bool
+    ensures { IsTrue result ↔ IsPart UNIT n }
+{
+    0 <= n && n < UNIT as i32
+}
+
+/// A row times a column.
+fn dot(a: i32, b: i32, c: i32, x: i32, y: i32, z: i32) -> i32
+    requires left { AreWithin 2 a b c }
+    requires right { AreWithin (UNIT - 1) x y z }
+    ensures value { result ≡ sum_of_products a b c x y z }
+    ensures size { unsigned_abs result ≤ 6 * (UNIT - 1) }
+    ensures entry_size { AreWithin 2 x y z → unsigned_abs result ≤ 12 }
+{
+    a * x + b * y + c * z
+}
+
+/// A row times a column, and t more, modulo the cell.
+fn place(a: i32, b: i32, c: i32, x: i32, y: i32, z: i32, t: i32) -> i32
+    requires left { AreWithin 2 a b c }
+    requires right { AreWithin (UNIT - 1) x y z }
+    requires by { unsigned_abs t ≤ UNIT - 1 }
+    ensures { result ≡ int_rem_euclid (sum_of_products a b c x y z +ℤ t) (pos UNIT) }
+{
+    (dot(a, b, c, x, y, z) + t).rem_euclid(UNIT as i32)
+}
+
+/// Sign times a cofactor.
+fn cofactor(sign: i32, a: i32, b: i32, c: i32, d: i32) -> i32
+    requires sign { unsigned_abs sign ≤ 1 }
+    requires left { (unsigned_abs a ≤ 2) × (unsigned_abs b ≤ 2) }
+    requires right { (unsigned_abs c ≤ 2) × (unsigned_abs d ≤ 2) }
+    ensures { result ≡ sign *ℤ (a *ℤ b -ℤ c *ℤ d) }
+{
+    sign * (a * b - c * d)
+}

@@ -1,0 +1,117 @@
+ghost use Rattle.std.specs.Prelude.{◌≡◌, ◌≤◌, ◌↔◌, IsTrue, IsSome, IfSome, IsOk, IfOk, IsErrOf, unsigned_abs};
+ghost use Rattle.lattice_algebra.specs.Matrix.{entries, coordinates, matrix_of, IsUnimodular, ◌·◌};
+ghost use Rattle.lattice_algebra.specs.Operator.{Operator, identity_operator, product, IsInverse, HasEntriesWithin};
+ghost use Rattle.exact_ops.specs.Narrow.{IsNarrow};
+ghost use Rattle.exact_ops.specs.Raw.{numbers_of};
+ghost use Rattle.exact_ops.specs.Fields.{matrix_in, column_in};
+
+use crate::UNIT;
+use crate::matrix::{Rotation, Translation};
+use crate::raw::Raw;
+use std::marker::Model;
+
+/// A symmetry operator modulo the translations of the lattice: a matrix W with a whole inverse and entries from -2 to 2,
+/// and a translation t in parts of a cell, each from 0 to `UNIT - 1`.
+#[derive(Clone, Copy, PartialEq, Eq, Debug, Drop)]
+pub struct Op {
+    w: Rotation,
+    t: Translation,
+}
+
+impl Model for Op {
+    ghost use Rattle.lattice_algebra.specs.Operator.{Operator};
+    ghost use Rattle.exact_ops.specs.Narrow.{IsNarrow};
+
+    ghost Value = { Operator };
+
+    ghost use Rattle.exact_ops.specs.Fields.{operator_in, stored_matrix, stored_column};
+
+    ghost view = { λ a. operator_in a.w a.t };
+
+    ghost invariant = { λ a. IsNarrow (operator_in a.w a.t) };
+
+    ghost inverse = { λ f. record { w = stored_matrix f.w; t = stored_column f.t } };
+}
+
+/// Why a Raw is no operator.
+#[derive(Clone, Copy, PartialEq, Eq, Debug, Drop)]
+pub enum OpFault {
+    /// The matrix has no whole inverse.
+    NotUnimodular,
+    /// It has one, but an entry lies outside -2..=2.
+    Wide,
+}
+
+impl Op {
+    pub fn identity() -> Op
+        ensures { result ≡ identity_operator }
+    {
+        Op {
+            w: Rotation::IDENTITY,
+            t: Translation::ZERO,
+        }
+    }
+
+    /// The operator with the numbers of a Raw.
+    pub fn of(raw: &Raw) -> Result<Op, OpFault>
+        ensures value { IfOk result (λ op. op ≡ numbers_of raw.now.w raw.now.t) }
+        ensures ok { IsOk result ↔ (IsUnimodular (matrix_of raw.now.w) × HasEntriesWithin 2 (matrix_of raw.now.w)) }
+        ensures not_unimodular { IsErrOf result OpFault.NotUnimodular ↔ (¬ IsUnimodular (matrix_of raw.now.w)) }
+    {
+        let w = Rotation::of(&raw.w);
+        if !raw.unimodular() {
+            return Err(OpFault::NotUnimodular);
+        }
+        if !w.is_within(2) {
+            return Err(OpFault::Wide);
+        }
+        let t = Translation::of(&raw.t);
+        Ok(Op { w, t })
+    }
+
+    /// The matrix, row by row.
+    pub fn w(&self) -> [i32; 9]
+        ensures value { result ≡ entries self.now.w }
+        // What is true of every operator.
+        ensures narrow { IsNarrow self.now }
+    {
+        self.w.rows()
+    }
+
+    /// The translation, in parts of a cell.
+    pub fn t(&self) -> [i32; 3]
+        ensures value { result ≡ coordinates self.now.t }
+        ensures narrow { IsNarrow self.now }
+    {
+        self.t.numbers()
+    }
+}
+
+/// The operator a after b, its translation modulo the cell. None exactly where an entry of the product of the matrices
+/// lies outside -2..=2.
+pub fn compose(a: &Op, b: &Op) -> Option<Op>
+    ensures some { IsSome result ↔ HasEntriesWithin 2 (a.now.w · b.now.w) }
+    ensures value { IfSome result (λ op. op ≡ product UNIT a.now b.now) }
+{
+    let w = a.w.after(&b.w);
+    if !w.is_within(2) {
+        return None;
+    }
+    let t = b.t.moved(&a.w, &a.t);
+    Some(Op { w, t })
+}
+
+/// The inverse of an operator, its translation modulo the cell. None exactly where an entry of the inverse matrix lies
+/// outside -2..=2.
+pub fn inverse(a: &Op) -> Option<Op>
+    ensures some { (g : Operator) → IsInverse UNIT a.now g → (IsSome result ↔ HasEntriesWithin 2 g.w) }
+    ensures value { IfSome result (λ op. IsInverse UNIT a.now op) }
+{
+    let sign = a.w.sign();
+    let w = a.w.scaled_adjugate(sign);
+    if !w.is_within(2) {
+        return None;
+    }
+    let t = a.t.negated().moved(&w, &Translation::ZERO);
+    Some(Op { w, t })
+}
