@@ -14,3 +14,6 @@ pub use raw::Raw;
 
 /// The number of parts of a cell in which translations are counted.
 pub const UNIT: u32 = 12;
+
+#[cfg(test)]
+mod tests;
