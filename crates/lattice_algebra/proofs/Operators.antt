@@ -1,6 +1,6 @@
 -- The operators modulo the cell are a group.
 use Rattle.std.proofs.Common.{◌≡◌, ℕ, ◌<◌, ap, sym, ◌∙◌, refl, subst}
-use Rattle.lattice_algebra.specs.Matrix.{Matrix, Column, ◌·ᶜ◌, neg_column, IsUnimodular}
+use Rattle.lattice_algebra.specs.Matrix.{◌·ᶜ◌, neg_column, IsUnimodular}
 use Rattle.lattice_algebra.specs.Operator.{Operator, product, inverse, modulo, IsOperator, IsInverse, identity_operator}
 use Rattle.lattice_algebra.specs.Map.{Map, ◌∘◌, identity_map, undo, operator_of, map_of}
 use Rattle.lattice_algebra.proofs.Matrices.{IsUnimodular-·, IsUnimodular-inverse, inverse_unique, inverse_matrix-·, ·-inverse_matrix}
