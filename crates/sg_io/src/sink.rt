@@ -1,0 +1,53 @@
+ghost use Rattle.std.specs.Prelude.{◌≡◌, ◌↔◌, ℕ, List, [], ◌≤◌, Option, IfOk, OnOk, OnErr, IsErrOf};
+ghost use Rattle.std.specs.Io.{WritesAtMost};
+ghost use Rattle.std.specs.Io.KnownBytes.{WriteAppends, Appends};
+ghost use Rattle.sg_io.specs.Bytes.{AppendsFront};
+ghost use Rattle.sg_io.specs.Count.{Rose};
+
+/// Why bytes were not taken.
+#[derive(Clone, Copy, Debug, PartialEq, Eq)]
+pub enum SinkStop {
+    /// The write failed.
+    Failed,
+    /// The sink itself wants memory.
+    NoMemory,
+}
+
+/// Where bytes go.
+pub trait Sink {
+    /// The bytes taken so far, where the sink tells them.
+    ghost held: { Self → Option (List ℕ) };
+
+    /// How often a write has failed. It never falls.
+    ghost faults: { Self → ℕ };
+
+    /// How often the sink itself has wanted memory. It never falls.
+    ghost wants: { Self → ℕ };
+
+    /// Takes a front of the piece, and says how many bytes of it: none exactly where the piece is empty. A write that
+    /// is refused took no byte.
+    fn write(&mut self, piece: &[u8]) -> Result<usize, SinkStop>
+        ensures bound { WritesAtMost result piece.now }
+        ensures bytes { WriteAppends (held self.old) (held self.new) result piece.now }
+        ensures none { IfOk result (λ count. (count ≡ 0) ↔ (piece.now ≡ [])) }
+        ensures faults_later { faults self.old ≤ faults self.new }
+        ensures wants_later { wants self.old ≤ wants self.new }
+        ensures failed { IsErrOf result SinkStop.Failed → Rose (faults self.old) (faults self.new) }
+        ensures no_memory { IsErrOf result SinkStop.NoMemory → Rose (wants self.old) (wants self.new) };
+}
+
+/// Writes all the bytes, in as many calls as it takes.
+pub fn put_all<K: Sink>(sink: &mut K, bytes: &[u8]) -> Result<(), SinkStop>
+    ensures ok { OnOk result (Appends (K.held sink.old) (K.held sink.new) bytes.now) }
+    ensures err { OnErr result (AppendsFront (K.held sink.old) (K.held sink.new) bytes.now) }
+    ensures faults_later { K.faults sink.old ≤ K.faults sink.new }
+    ensures wants_later { K.wants sink.old ≤ K.wants sink.new }
+    ensures failed { IsErrOf result SinkStop.Failed → Rose (K.faults sink.old) (K.faults sink.new) }
+    ensures no_memory { IsErrOf result SinkStop.NoMemory → Rose (K.wants sink.old) (K.wants sink.new) }
+{
+    let mut put = 0;
+    while put < bytes.len() {
+        put += sink.write(&bytes[put..])?;
+    }
+    Ok(())
+}

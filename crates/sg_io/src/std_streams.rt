@@ -1,0 +1,96 @@
+ghost use Rattle.std.specs.Prelude.{◌≡◌, ◌≢◌, ◌↔◌, [], ◌≤◌, None, IfOk};
+ghost use Rattle.std.specs.Io.{ReadsAtMost, WritesAtMost};
+ghost use Rattle.sg_io.specs.Count.{CountsErrors};
+
+use crate::count::Count;
+use crate::sink::{Sink, SinkStop};
+use crate::source::{Failed, Source};
+use std::io::{Read, Write};
+
+/// Any reader of std. It tells no bytes, and tries no read again.
+#[derive(Drop)]
+pub struct StdSource<R> {
+    inner: R,
+    faults: Count,
+}
+
+impl<R: Read> StdSource<R> {
+    pub fn new(inner: R) -> StdSource<R>
+        ensures { ⟦<StdSource<R> as Source>⟧.faults result ≡ 0 }
+    {
+        StdSource {
+            inner,
+            faults: Count::new(),
+        }
+    }
+}
+
+impl<R: Read> Source for StdSource<R> {
+    ghost left = { λ _. None };
+
+    ghost faults = { λ s. s.faults };
+
+    fn read(&mut self, buf: &mut [u8]) -> Result<usize, Failed>
+        ensures bound { ReadsAtMost result buf.new }
+        ensures faults_later { let faults = ⟦<StdSource<R> as Source>⟧.faults in
+            faults self.old ≤ faults self.new }
+        ensures counted { let faults = ⟦<StdSource<R> as Source>⟧.faults in
+            CountsErrors (faults self.old) (faults self.new) result }
+    {
+        match self.inner.read(buf) {
+            Ok(count) => Ok(count),
+            Err(_) => {
+                self.faults.raise();
+                Err(Failed)
+            }
+        }
+    }
+}
+
+/// Any writer of std, flushed after each write. It tells no bytes, and tries no write again. A write that takes none of
+/// a piece that is not empty is a fault.
+#[derive(Drop)]
+pub struct StdSink<W> {
+    inner: W,
+    faults: Count,
+}
+
+impl<W: Write> StdSink<W> {
+    pub fn new(inner: W) -> StdSink<W>
+        ensures { ⟦<StdSink<W> as Sink>⟧.faults result ≡ 0 }
+    {
+        StdSink {
+            inner,
+            faults: Count::new(),
+        }
+    }
+}
+
+impl<W: Write> Sink for StdSink<W> {
+    ghost held = { λ _. None };
+
+    ghost faults = { λ s. s.faults };
+
+    ghost wants = { λ _. 0 };
+
+    fn write(&mut self, piece: &[u8]) -> Result<usize, SinkStop>
+        ensures bound { WritesAtMost result piece.now }
+        ensures none { IfOk result (λ count. (count ≡ 0) ↔ (piece.now ≡ [])) }
+        ensures never_wants { result ≢ Err SinkStop.NoMemory }
+        ensures faults_later { let faults = ⟦<StdSink<W> as Sink>⟧.faults in
+            faults self.old ≤ faults self.new }
+        ensures counted { let faults = ⟦<StdSink<W> as Sink>⟧.faults in
+            CountsErrors (faults self.old) (faults self.new) result }
+    {
+        if piece.is_empty() {
+            return Ok(0);
+        }
+        if let Ok(count) = self.inner.write(piece) {
+            if count > 0 && self.inner.flush().is_ok() {
+                return Ok(count);
+            }
+        }
+        self.faults.raise();
+        Err(SinkStop::Failed)
+    }
+}
