@@ -21,10 +21,11 @@ touch "$top/crates.txt" "$top"/crates/{sg,low}/{src/a.rt,specs/a.antt,proofs/a.a
 cat >"$made/tools/rt" <<'RT'
 #!/bin/sh
 echo called >>"$MADE/calls"
+echo 'rt prints'
 cat
 [ -e "$MADE/broken" ] && exit 1
 mkdir -p out
-printf '#!/bin/sh\necho "$# words"; cat; exit 7\n' >out/sg
+printf '#!/bin/sh\nprintf "<%%s>" "$@"; cat; exit 7\n' >out/sg
 chmod +x out/sg
 exit 2
 RT
@@ -40,6 +41,7 @@ expect() {
     [ "$calls" -eq "$builds" ] || wrong="$calls builds, not $builds"
     [ "$status" -eq "$wanted" ] || wrong="${wrong:+$wrong; }status $status, not $wanted"
     printf '%b' "$printed" | cmp -s - "$made/printed" || wrong="${wrong:+$wrong; }standard output differs"
+    [ "$wanted" -ne 1 ] || ! [ -e "$program" ] || wrong="${wrong:+$wrong; }an old program is left"
     if [ "$builds" -eq 0 ] && [ -s "$made/told" ]; then wrong="${wrong:+$wrong; }standard error is not empty"; fi
     if [ -z "$wrong" ]; then
         passed=$((passed + 1))
@@ -54,24 +56,24 @@ age() {
     touch -d 2002-01-01 "$program"
 }
 
-expect 'the first call' 1 7 '3 words\ninput'
-expect 'the second call' 0 7 '3 words\ninput'
+expect 'the first call' 1 7 '<one><><two words>input'
+expect 'the second call' 0 7 '<one><><two words>input'
 for file in crates.txt crates/low/src/a.rt crates/low/specs/a.antt crates/low/proofs/a.antt; do
     age
-    expect "a call while nothing is newer" 0 7 '3 words\ninput'
+    expect "a call while nothing is newer" 0 7 '<one><><two words>input'
     touch "$top/$file"
-    expect "a newer $file" 1 7 '3 words\ninput'
+    expect "a newer $file" 1 7 '<one><><two words>input'
 done
 age
 rm "$top/crates/low/proofs/a.antt"
-expect 'a file that is gone' 1 7 '3 words\ninput'
+expect 'a file that is gone' 1 7 '<one><><two words>input'
 touch "$made/broken"
 age
 touch "$top/crates/sg/src/a.rt"
 expect 'a build that fails' 1 1 ''
 expect 'a build that fails again' 1 1 ''
 rm "$made/broken"
-expect 'the next build' 1 7 '3 words\ninput'
+expect 'the next build' 1 7 '<one><><two words>input'
 
 echo "launcher: $passed passed, $failed failed"
 [ "$failed" -eq 0 ]
