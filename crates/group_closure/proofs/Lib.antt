@@ -1,0 +1,4 @@
+pub mod Bundle
+pub mod Ordered
+pub mod Lists
+mod Growing

@@ -1,0 +1,134 @@
+-- Laws of Span, of group lists and of groups.
+use Rattle.std.proofs.Common.{◌≡◌, ℕ, ◌≤◌, ◌↔◌, List, [], ◌∷◌, length, drop, take, ◌++◌, sym, ap, ◌∙◌, subst, arith, inl, inr, All, Contains, IsPermutation, IsSorted, slice_get, suc}
+use Rattle.std.proofs.lemmas.List.{take_at}
+use Rattle.std.proofs.lemmas.List.Elements.{All-contains, All-weaker}
+use Rattle.std.proofs.lemmas.List.Sorted.{Contains-permutation, IsPermutation-sym, length_permutation, All-permutation}
+use Rattle.std.proofs.lemmas.Map.Made.{IsDistinct-from_AllPairs, AllPairs-from_IsDistinct}
+use Rattle.std.proofs.lemmas.Map.Keys.{IsDistinct-IsPermutation}
+use Rattle.finite_groups.specs.Words.{IsClosedList}
+use Rattle.finite_groups.proofs.Closing as closing
+use Rattle.finite_groups.proofs.Members as members
+use Rattle.lattice_algebra.specs.Operator.{Operator, IsOperator, HasEntriesWithin}
+use Rattle.exact_ops.specs.Narrow.{IsNarrow}
+use Rattle.exact_ops.specs.declared.TheConstants.{UNIT}
+use Rattle.group_closure.specs.declared.TheConstants.{MAX_OPERATORS}
+use Rattle.group_closure.specs.Order.{operator_cmp}
+use Rattle.group_closure.specs.Words.{IsLetter, Span, Closes, AreDistinct, IsUnclosed}
+use Rattle.group_closure.specs.GroupList.{IsGroupList, IsGroup}
+use Rattle.group_closure.specs.Steps.{AreGenerators, IsGenerated}
+use Rattle.group_closure.proofs.Bundle.{cell_operators}
+use Rattle.group_closure.proofs.Ordered.{operator_cmp_total, operator_ties, one_order_after, strict_from_sorted}
+
+-- ---- Span
+
+pub are_operators : (ops : List Operator) → All IsNarrow ops → All (IsOperator UNIT) ops
+are_operators ops n = All-weaker IsNarrow (IsOperator UNIT) (λ f h. h.is_operator) ops n
+
+-- more listed operators have a greater Span
+pub span_more : (list other : List Operator) → ((f : Operator) → Contains list f → Contains other f) → (f : Operator) → Span list f → Span other f
+span_more list other h f s = (s.0, All-weaker (IsLetter list) (IsLetter other) letter s.0 s.1, s.2)
+  where
+    letter : (e : Operator) → IsLetter list e → IsLetter other e
+    letter e (inl c) = inl (h e c)
+    letter e (inr l) = inr (l.0, h l.0 l.1, l.2, l.3)
+
+pub unclosed_more : (list other : List Operator) → ((f : Operator) → Contains list f → Contains other f) → IsUnclosed list → IsUnclosed other
+unclosed_more list other h (inl (many, m)) = inl (many, record { spanned = All-weaker (Span list) (Span other) (span_more list other h) many m.spanned; distinct = m.distinct; beyond = m.beyond })
+unclosed_more list other h (inr (f, w)) = inr (f, record { spanned = span_more list other h f w.spanned; wide = w.wide })
+
+pub not_closing : (list : List Operator) → IsUnclosed list → Closes list → ⊥
+not_closing list (inl (many, m)) c = closing.too_many cell_operators (λ f. HasEntriesWithin 2 f.w) MAX_OPERATORS list many (IsDistinct-from_AllPairs cell_operators.same many m.distinct) m.spanned m.beyond c
+not_closing list (inr (f, w)) c = w.wide (c.3 f w.spanned)
+
+-- ---- group lists
+
+pub closes_by : (list members : List Operator) → ((f : Operator) → Contains members f ↔ Span list f) → length members ≤ MAX_OPERATORS → All IsNarrow members → Closes list
+closes_by list members s l n = (members, l, λ f h. (s f).1 h, λ f h. (All-contains IsNarrow members f n ((s f).1 h)).within_two)
+
+first_not_later : (f : Operator) (ops : List Operator) → AreDistinct (f ∷ ops) → Contains ops f → ⊥
+first_not_later f ops d m = d 0 (suc m.0) f (omega arith) (omega (arith, m.1)) (sym m.2)
+
+pub one_list : (list a b : List Operator) → IsGroupList list a → IsGroupList list b → a ≡ b
+one_list list [] b p q = let e = p.first in cc
+one_list list (f ∷ a) [] p q = let e = q.first in cc
+one_list list (f ∷ a) (g ∷ b) p q =
+    let i = p.first in
+    let j = q.first in
+    let e : g ≡ f = cc in
+    let d : AreDistinct (f ∷ b) = subst (λ (v : Operator). AreDistinct (v ∷ b)) e q.distinct in
+    one_order_after operator_cmp operator_cmp_total f a b (first_not_later f a p.distinct) (first_not_later f b d) p.sorted q.sorted (λ z. (
+      (λ c. subst (λ (v : Operator). Contains (v ∷ b) z) e ((q.span z).1 ((p.span z).0 c))),
+      (λ c. (p.span z).1 ((q.span z).0 (subst (λ (v : Operator). Contains (v ∷ b) z) (sym e) c))),
+    ))
+    ∙ ap (λ (v : Operator). v ∷ b) (sym e)
+
+pub same_list : (list other ops : List Operator) → ((f : Operator) → Contains list f ↔ Contains other f) → IsGroupList list ops → IsGroupList other ops
+same_list list other ops h p = record {
+  first = p.first;
+  span = λ f. ((λ c. span_more list other (λ g. (h g).0) f ((p.span f).0 c)), (λ s. (p.span f).1 (span_more other list (λ g. (h g).1) f s)));
+  distinct = p.distinct;
+  sorted = p.sorted;
+}
+
+-- ---- groups
+
+-- a group is a closed list, as the laws of finite groups speak of it
+pub closed_list : (ops : List Operator) → IsGroup ops → IsClosedList cell_operators ops
+closed_list [] p = let e = p.first in cc
+closed_list (f ∷ ops) p = record {
+  distinct = IsDistinct-from_AllPairs cell_operators.same (f ∷ ops) p.distinct;
+  valid = are_operators (f ∷ ops) p.narrow;
+  has_one = let i = p.first in let e : f ≡ cell_operators.one = cc in subst (λ (v : Operator). Contains (f ∷ ops) v) e (members.Contains-here f ops);
+  closed = p.closed;
+}
+
+-- ---- sorting what was generated
+
+distinct_rest : (ops : List Operator) → AreDistinct ops → AreDistinct (drop 1 ops)
+distinct_rest [] d = d
+distinct_rest (f ∷ ops) d = λ i j e l m. d (suc i) (suc j) e (omega arith) (omega arith)
+
+pub list_of_generated : (generators ops sorted : List Operator) → IsGenerated generators ops → IsPermutation ops sorted → slice_get sorted 0 ≡ slice_get ops 0 → IsSorted operator_cmp (drop 1 sorted) → IsGroupList generators sorted
+list_of_generated generators ops sorted p moved f s =
+    let d : AreDistinct sorted = AllPairs-from_IsDistinct cell_operators.same sorted (IsDistinct-IsPermutation cell_operators.eq (members.laws cell_operators.eq cell_operators.same).symm ops sorted moved (IsDistinct-from_AllPairs cell_operators.same ops p.distinct)) in
+    record {
+      first = f ∙ p.first;
+      span = λ g. ((λ c. (p.span g).0 (Contains-permutation sorted ops g (IsPermutation-sym ops sorted moved) c)), (λ h. Contains-permutation ops sorted g moved ((p.span g).1 h)));
+      distinct = d;
+      sorted = strict_from_sorted operator_cmp operator_cmp_total operator_ties (drop 1 sorted) cell_operators.one s (distinct_rest sorted d);
+    }
+
+-- the group list of operators whose Span is narrow and short is a group
+pub group_of_list : (generators ops : List Operator) → All IsNarrow generators → IsGroupList generators ops → All IsNarrow ops → length ops ≤ MAX_OPERATORS → IsGroup ops
+group_of_list generators ops v p n l = record {
+  first = p.first;
+  distinct = p.distinct;
+  closed = (closing.closed_from_span cell_operators generators ops (are_operators generators v) (IsDistinct-from_AllPairs cell_operators.same ops p.distinct) p.span).closed;
+  sorted = p.sorted;
+  narrow = n;
+  within = l;
+}
+
+-- what holds of the generators holds of the list that they came from
+pub same_generators : (list generators : List Operator) → AreGenerators list generators → (f : Operator) → Contains generators f ↔ Contains list f
+same_generators list generators g f = ((λ c. All-contains (Contains list) generators f g.listed c), (λ c. All-contains (Contains generators) list f g.all c))
+
+-- what `close` answers with
+pub record IsGroupOf (list ops : List Operator) : Type 0 where
+  pub listed : IsGroupList list ops
+  pub group : IsGroup ops
+  pub closes : Closes list
+
+of_generated : (list generators made sorted : List Operator) → AreGenerators list generators → IsGenerated generators made → IsPermutation made sorted → slice_get sorted 0 ≡ slice_get made 0 → IsSorted operator_cmp (drop 1 sorted) → IsGroupOf list sorted
+of_generated list generators made sorted g p m f s =
+    let k = list_of_generated generators made sorted p m f s in
+    let n = All-permutation IsNarrow made sorted m p.narrow in
+    let l : length sorted ≤ MAX_OPERATORS = omega (arith, length_permutation made sorted m, p.within) in
+    let h = same_list generators list sorted (same_generators list generators g) k in
+    record { listed = h; group = group_of_list generators sorted g.narrow k n l; closes = closes_by list sorted h.span l n }
+
+-- the same of the lists that `close` lends to the functions that it calls
+pub group_of_sorted : (list collected lent made unsorted sorted : List Operator) (n : ℕ) → AreGenerators list collected → lent ≡ collected → IsGenerated lent made → unsorted ≡ made → length unsorted ≡ n → IsPermutation unsorted sorted → slice_get sorted 0 ≡ slice_get unsorted 0 → IsSorted operator_cmp (drop 1 sorted) → IsGroupOf list (take n (sorted ++ drop (length sorted) made))
+group_of_sorted list collected lent made unsorted sorted n g a p b l m f s =
+    subst (IsGroupOf list) (sym (take_at sorted (drop (length sorted) made) n (length_permutation unsorted sorted m ∙ l)))
+    (of_generated list lent made sorted (subst (AreGenerators list) (sym a) g) p (subst (λ v. IsPermutation v sorted) b m) (f ∙ ap (λ v. slice_get v 0) b) s)

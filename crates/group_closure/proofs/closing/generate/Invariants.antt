@@ -1,0 +1,17 @@
+use Rattle.std.proofs.Common.{◌≤◌, ◌<◌, ◌-◌, vec_len, vec_capacity}
+use Rattle.group_closure.specs.declared.TheConstants.{MAX_OPERATORS}
+use Rattle.group_closure.specs.Steps.{IsPartial}
+use Rattle.group_closure.proofs.Growing.{AreDone}
+use Rattle.group_closure.proofs.closing.generate.Given as goal
+
+abbrev pub invariant-loop-done : goal.invariant-loop-done
+invariant-loop-done l = record {
+  partial : IsPartial l.generators l.members.items;
+  within : vec_len l.members ≤ MAX_OPERATORS;
+  room : MAX_OPERATORS < vec_capacity l.members;
+  upto : l.done ≤ vec_len l.members;
+  products : AreDone l.generators l.members.items l.done;
+}
+
+abbrev pub decreases-loop-done : goal.decreases-loop-done
+decreases-loop-done l = MAX_OPERATORS - l.done

@@ -1,0 +1,17 @@
+//! The group that a list of symmetry operators generates, modulo the translations of the lattice: all products of listed
+//! operators and their inverses, in one fixed order.
+#![tactic(auto)]
+
+mod closing;
+mod group;
+mod laws;
+mod order;
+
+pub use group::{CloseFault, Group};
+pub use laws::{
+    one_group_list, same_members_same_list, short_narrow_list_closes, unclosed_never_closes,
+};
+
+/// The most operators that a group can have: a space group has at most 48 rotation parts, and a conventional cell at most
+/// four translations.
+pub const MAX_OPERATORS: usize = 192;
