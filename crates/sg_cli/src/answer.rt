@@ -1,0 +1,113 @@
+ghost use Rattle.std.specs.Prelude.{◌≡◌, ◌≢◌, ◌⊎◌, ◌↔◌, ◌+◌, ◌≤◌, List, ℕ, IfSome, length, IsErrOf};
+ghost use Rattle.std.specs.Io.KnownBytes.{Appends, IsAtEnd};
+ghost use Rattle.sg_io.specs.Bytes.{AppendsFront, ConsumesSome};
+ghost use Rattle.sg_io.specs.Count.{Rose};
+ghost use Rattle.sg_cli.specs.declared.fault.Fault.{Fault};
+ghost use Rattle.sg_cli.specs.Answer.{Answer, IsAnswer};
+ghost use Rattle.sg_cli.specs.Fault.{status_of, text_of};
+ghost use Rattle.sg_cli.specs.Run.{IsDecided, IsRefusal, IsReadToEnd, before_writing, HasStatus, IfPrinted, IfRefused, IsTold, Completes};
+ghost use Rattle.sg_cli.specs.Serve.{Answers, Serves};
+ghost use Rattle.sg_cli.specs.Words.{IsNoCommand, texts};
+
+use crate::MAX_INPUT;
+use crate::fault::Fault;
+use crate::lines::first_bad_line;
+use crate::words::{Command, read_words};
+use sg_io::{Sink, Source, put_all, read_all};
+use std::alloc::Global;
+
+/// Words and bytes have one answer at most.
+pub fn answer_is_unique()
+    ensures { (words : List (List ℕ)) (bytes : List ℕ) (a b : Answer) → IsAnswer words bytes a → IsAnswer words bytes b → a ≡ b }
+{}
+
+/// Prints the answer to the command, where there is one.
+fn print_answer<K: Sink>(command: Command, bytes: &[u8], out: &mut K) -> Result<(), Fault>
+    requires { length bytes.now ≤ MAX_INPUT }
+    ensures { Answers (record { held = K.held; faults = K.faults; wants = K.wants })
+        command bytes.now out.old out.new result }
+{
+    if let Some(line) = first_bad_line(bytes) {
+        return Err(Fault::Unreadable(line));
+    }
+    match command {
+        Command::Ops => put_all(out, b"x,y,z\n")?,
+    }
+    Ok(())
+}
+
+fn serve<S: Source, K: Sink>(
+    alloc: Global,
+    words: &[String],
+    source: &mut S,
+    out: &mut K,
+) -> Result<(), Fault>
+    ensures words { IsErrOf result Fault.Words ↔ IsNoCommand (texts words.now) }
+    ensures served { Serves (record { held = K.held; faults = K.faults; wants = K.wants }) (record { left = S.left; faults = S.faults })
+        (texts words.now) source.old source.new out.old out.new result }
+{
+    let Some(command) = read_words(words) else {
+        return Err(Fault::Words);
+    };
+    let bytes = read_all(alloc, source, MAX_INPUT)?;
+    print_answer(command, &bytes, out)
+}
+
+/// Writes the text of the fault. Where the write is refused, nothing more comes of it.
+pub fn tell<E: Sink>(err: &mut E, fault: Fault)
+    ensures { IsTold (record { held = E.held; faults = E.faults; wants = E.wants }) err.old err.new (text_of fault) }
+{
+    let _ = put_all(err, fault.text().bytes());
+}
+
+/// Answers the words over the bytes of the source, and gives the status that the program ends with: 0, or that of the
+/// fault whose text is told on `err`.
+pub fn run<S: Source, K: Sink, E: Sink>(
+    alloc: Global,
+    words: &[String],
+    source: &mut S,
+    out: &mut K,
+    err: &mut E,
+) -> u8
+    // Words are refused exactly where they are no command in range. Nothing is read then.
+    ensures words { (result ≡ 2) ↔ IsNoCommand (texts words.now) }
+    ensures words_unread { result ≡ 2 → source.new ≡ source.old }
+
+    ensures read_fault { result ≡ 3 → Rose (S.faults source.old) (S.faults source.new) }
+
+    // The status is that of the answer, of which the writing may have failed.
+    ensures status { result ≢ 3 → result ≢ 9 →
+        IfSome (S.left source.old) (λ bytes. HasStatus (texts words.now) bytes (before_writing result)) }
+    ensures status_end_of_input { IsReadToEnd result → IsAtEnd (S.left source.new) }
+    ensures status_too_long { result ≡ 10 →
+        ConsumesSome (S.left source.old) (S.left source.new) (λ count. count ≡ MAX_INPUT + 1) }
+
+    // The output is the text of the answer, or a front of it.
+    ensures output { result ≡ 0 →
+        IfPrinted (texts words.now) (S.left source.old) (Appends (K.held out.old) (K.held out.new)) }
+    ensures output_prefix { result ≡ 4 →
+        IfPrinted (texts words.now) (S.left source.old) (AppendsFront (K.held out.old) (K.held out.new)) }
+    ensures output_memory { result ≡ 9 → (out.new ≡ out.old) ⊎ (Rose (K.wants out.old) (K.wants out.new)
+        × IfPrinted (texts words.now) (S.left source.old) (AppendsFront (K.held out.old) (K.held out.new))) }
+    ensures output_none { IsRefusal result → out.new ≡ out.old }
+
+    ensures write_fault { result ≡ 4 → Rose (K.faults out.old) (K.faults out.new) }
+
+    // The fault with this status is told, and it is that of the answer.
+    ensures fault_text { result ≢ 0 → (fault : Fault) × (status_of fault ≡ result)
+        × (IsDecided result → IfRefused (texts words.now) (S.left source.old) fault)
+        × IsTold (record { held = E.held; faults = E.faults; wants = E.wants }) err.old err.new (text_of fault) }
+    ensures fault_text_none { result ≡ 0 → err.new ≡ err.old }
+
+    // Where nothing fails, a text is printed, or memory is wanted.
+    ensures complete { (Rose (S.faults source.old) (S.faults source.new) → ⊥) → (Rose (K.faults out.old) (K.faults out.new) → ⊥)
+        → Completes (texts words.now) (S.left source.old) (K.held out.old) (K.held out.new) result }
+{
+    match serve(alloc, words, source, out) {
+        Ok(()) => 0,
+        Err(fault) => {
+            tell(err, fault);
+            fault.status()
+        }
+    }
+}

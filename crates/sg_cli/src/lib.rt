@@ -1,0 +1,19 @@
+//! The command `sg`, from its words and its input to its output and its status. The program around it has `main` alone.
+#![tactic(auto)]
+
+mod answer;
+mod fault;
+mod fault_text;
+mod lines;
+mod words;
+
+pub use answer::{answer_is_unique, run, tell};
+pub use fault::Fault;
+pub use fault_text::FaultText;
+pub use words::{Command, read_words};
+
+/// The greatest number of bytes that an input may have.
+pub const MAX_INPUT: u32 = 1_048_576;
+
+#[cfg(test)]
+mod tests;
