@@ -1,0 +1,80 @@
+-- The lines decide the answer: what is read is one list, and the first bad line is one line, of one kind.
+use Rattle.std.proofs.Common.{◌≡◌, ℕ, suc, ◌+◌, List, [], ◌∷◌, ◌++◌, length, inl, inr, sym, ap, subst, ◌∙◌, refl}
+use Rattle.std.specs.List.{AllByRecursion}
+use Rattle.std.proofs.lemmas.List.Elements.{recursion_from_All}
+use Rattle.exact_ops.specs.Matrix.{IsUnimodular}
+use Rattle.exact_ops.specs.Operator.{Operator}
+use Rattle.triplet_text.specs.declared.lines.LineFault.{LineFault}
+use Rattle.triplet_text.specs.declared.lines.LineFault.TheVariants.{Unreadable, NotUnimodular, NoMemory}
+use Rattle.triplet_text.specs.Lines.{IsGood, AreRead, IsFirstBad, IsFaultOf, IsUnreadable, IsNotUnimodular}
+
+-- ---- a line is of one kind
+
+-- no good line is one of these
+abbrev pub AreBad : (List ℕ → Type 0) → Type 0
+AreBad Bad = (line : List ℕ) → IsGood line → Bad line → ⊥
+
+pub unreadable_are_bad : AreBad IsUnreadable
+unreadable_are_bad line (inl skipped) u = let k = u.kept in cc
+unreadable_are_bad line (inr r) u = let s = r.triplet in let n = u.no_triplet in cc
+
+pub not_unimodular_are_bad : AreBad IsNotUnimodular
+not_unimodular_are_bad line (inl skipped) n = let k = n.kept in cc
+not_unimodular_are_bad line (inr r) n =
+    let e : r.operator ≡ n.operator = cc (r.triplet, n.triplet) in
+    n.not_unimodular (subst (λ (f : Operator). IsUnimodular f.w) e r.unimodular)
+
+pub unreadable_or_not_unimodular : (line : List ℕ) → IsUnreadable line → IsNotUnimodular line → ⊥
+unreadable_or_not_unimodular line u n = let s = n.triplet in let t = u.no_triplet in cc
+
+-- ---- there is one first bad line
+
+bad_among : (Bad : List ℕ → Type 0) (before after : List (List ℕ)) (line : List ℕ) → AreBad Bad → AllByRecursion IsGood (before ++ line ∷ after) → Bad line → ⊥
+bad_among Bad [] after line bad g b = bad line g.0 b
+bad_among Bad (first ∷ before) after line bad g b = bad_among Bad before after line bad g.1 b
+
+where_bad : (Bad Other : List ℕ → Type 0) (xs ys after rest : List (List ℕ)) (a b : List ℕ) → AreBad Bad → AreBad Other → xs ++ a ∷ after ≡ ys ++ b ∷ rest → AllByRecursion IsGood xs → AllByRecursion IsGood ys → Bad a → Other b
+    → (length xs ≡ length ys) × (a ≡ b)
+where_bad Bad Other [] [] after rest a b bad other e g h p q = (refl, cc)
+where_bad Bad Other [] (first ∷ ys) after rest a b bad other e g h p q = let d : first ≡ a = cc in absurd (bad a (subst IsGood d h.0) p)
+where_bad Bad Other (first ∷ xs) [] after rest a b bad other e g h p q = let d : first ≡ b = cc in absurd (other b (subst IsGood d g.0) q)
+where_bad Bad Other (first ∷ xs) (second ∷ ys) after rest a b bad other e g h p q =
+    let d : xs ++ a ∷ after ≡ ys ++ b ∷ rest = cc in
+    let k = where_bad Bad Other xs ys after rest a b bad other d g.1 h.1 p q in
+    (ap suc k.0, k.1)
+
+-- where every line is good, none is the first bad one
+pub none_bad : (Bad : List ℕ → Type 0) (lines : List (List ℕ)) (list : List Operator) (k : ℕ) → AreBad Bad → AreRead lines list → IsFirstBad Bad lines k → ⊥
+none_bad Bad lines list k bad r f = bad_among Bad f.before f.after f.line bad (subst (AllByRecursion IsGood) f.cut (recursion_from_All IsGood lines r.good)) f.bad
+
+-- two first bad lines have one number, and are one line
+pub same_place : (Bad Other : List ℕ → Type 0) (lines : List (List ℕ)) (j k : ℕ) → AreBad Bad → AreBad Other → (f : IsFirstBad Bad lines j) → (g : IsFirstBad Other lines k) → (j ≡ k) × (f.line ≡ g.line)
+same_place Bad Other lines j k bad other f g =
+    let e = where_bad Bad Other f.before g.before f.after g.after f.line g.line bad other (sym f.cut ∙ g.cut) (recursion_from_All IsGood f.before f.good) (recursion_from_All IsGood g.before g.good) f.bad g.bad in
+    (f.number ∙ ap (λ n. n + 1) e.0 ∙ sym g.number, e.1)
+
+-- ---- so the answer is one
+
+pub same_list : (lines : List (List ℕ)) (a b : List Operator) → AreRead lines a → AreRead lines b → a ≡ b
+same_list lines a b p q = p.operators ∙ sym q.operators
+
+-- where all can be read, memory alone can be wanting
+pub no_fault : (lines : List (List ℕ)) (list : List Operator) (fault : LineFault) → AreRead lines list → IsFaultOf lines fault → fault ≡ NoMemory
+no_fault lines list (Unreadable k) r f = absurd (none_bad IsUnreadable lines list k unreadable_are_bad r f)
+no_fault lines list (NotUnimodular k) r f = absurd (none_bad IsNotUnimodular lines list k not_unimodular_are_bad r f)
+no_fault lines list NoMemory r f = refl
+
+both_kinds : (lines : List (List ℕ)) (j k : ℕ) → IsFirstBad IsUnreadable lines j → IsFirstBad IsNotUnimodular lines k → ⊥
+both_kinds lines j k f g =
+    let e = (same_place IsUnreadable IsNotUnimodular lines j k unreadable_are_bad not_unimodular_are_bad f g).1 in
+    unreadable_or_not_unimodular g.line (subst IsUnreadable e f.bad) g.bad
+
+-- two faults that are no want of memory are one
+pub same_fault : (lines : List (List ℕ)) (a b : LineFault) → IsFaultOf lines a → IsFaultOf lines b → (a ≡ NoMemory → ⊥) → (b ≡ NoMemory → ⊥) → a ≡ b
+same_fault lines (Unreadable j) (Unreadable k) f g m n = ap Unreadable (same_place IsUnreadable IsUnreadable lines j k unreadable_are_bad unreadable_are_bad f g).0
+same_fault lines (Unreadable j) (NotUnimodular k) f g m n = absurd (both_kinds lines j k f g)
+same_fault lines (Unreadable j) NoMemory f g m n = absurd (n refl)
+same_fault lines (NotUnimodular j) (Unreadable k) f g m n = absurd (both_kinds lines k j g f)
+same_fault lines (NotUnimodular j) (NotUnimodular k) f g m n = ap NotUnimodular (same_place IsNotUnimodular IsNotUnimodular lines j k not_unimodular_are_bad not_unimodular_are_bad f g).0
+same_fault lines (NotUnimodular j) NoMemory f g m n = absurd (n refl)
+same_fault lines NoMemory b f g m n = absurd (m refl)

@@ -1,0 +1,14 @@
+use Rattle.std.proofs.Common.{sym, ap, ◌/◌, ◌∙◌, ℕ}
+use Rattle.triplet_text.specs.Fractions.{quotient_text}
+use Rattle.triplet_text.proofs.LowestTerms.{positive, gcd_is}
+use Rattle.triplet_text.proofs.fraction.lowest_terms.Goals as goal
+
+pub nonzero_div-n : goal.nonzero_div-n
+nonzero_div-n c = positive c.args.n c.args.d c.greatest_common_divisor-g.result c.requires c.greatest_common_divisor-g.ensures
+
+pub nonzero_div-d : goal.nonzero_div-d
+nonzero_div-d c = positive c.args.n c.args.d c.greatest_common_divisor-g.result c.requires c.greatest_common_divisor-g.ensures
+
+pub returns-clause-text : goal.returns-clause-text
+returns-clause-text c =
+    c.quotient.ensures.text ∙ ap (λ (g : ℕ). quotient_text (c.args.n / g) (c.args.d / g)) (sym (gcd_is c.args.n c.args.d c.greatest_common_divisor-g.result c.requires c.greatest_common_divisor-g.ensures))

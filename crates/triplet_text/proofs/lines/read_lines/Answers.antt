@@ -1,0 +1,19 @@
+use Rattle.std.proofs.Common.{arith}
+use Rattle.triplet_text.proofs.LineSteps.{lines_cut, fewer_left, one_more, fault_found}
+use Rattle.triplet_text.proofs.lines.read_lines.Goals as goal
+
+pub returns-in-Err-clause-fault : goal.returns-in-Err-clause-fault
+returns-in-Err-clause-fault c =
+    let e = lines_cut c.cut_line.result.1 c.in-Some.text.now c.cut_line.result.0.now c.cut_line.ensures.lines in
+    let read = rw (c.in-Some.is, e) at c.loop-rest.invariant.read in
+    fault_found _ _ _ _ _ _ read c.in-Err.ensures.fault
+
+pub loop-rest-preserved : goal.loop-rest-preserved
+loop-rest-preserved c =
+    let e = lines_cut c.cut_line.result.1 c.in-Some.text.now c.cut_line.result.0.now c.cut_line.ensures.lines in
+    let read = rw (c.in-Some.is, e) at c.loop-rest.invariant.read in
+    let count = rw c.in-Some.is at c.loop-rest.invariant.count in
+    record {
+      read = one_more _ _ _ _ _ _ read c.in_default-take_line.ensures.good c.in_default-take_line.ensures.list;
+      count = omega (arith, fewer_left c.cut_line.result.1 c.in-Some.text.now c.cut_line.result.0.now c.cut_line.ensures.shorter, count);
+    }

@@ -1,0 +1,20 @@
+-- The text of a fraction in lowest terms.
+use Rattle.std.specs.Prelude.{◌==◌, ◌&&◌, if◌then◌else◌, ℕ, zero, suc, List, ◌∷◌, ◌++◌, ◌/◌, ◌%◌, decimal}
+use Rattle.triplet_text.specs.Bytes.{stroke}
+
+-- the greatest number up to k that divides n and d
+unfoldable pub common_divisor_up_to : ℕ → ℕ → ℕ → ℕ
+common_divisor_up_to n d zero = 0
+common_divisor_up_to n d (suc k) = if n % suc k == 0 && d % suc k == 0 then suc k else common_divisor_up_to n d k
+
+-- the greatest common divisor of n and d, where d is not 0
+abbrev pub gcd : ℕ → ℕ → ℕ
+gcd n d = common_divisor_up_to n d d
+
+-- p over q as it is written: q is left out where it is 1
+abbrev pub quotient_text : ℕ → ℕ → List ℕ
+quotient_text p q = if q == 1 then decimal p else decimal p ++ stroke ∷ decimal q
+
+-- n over d in lowest terms
+abbrev pub fraction_text : ℕ → ℕ → List ℕ
+fraction_text n d = let g = gcd n d in quotient_text (n / g) (d / g)

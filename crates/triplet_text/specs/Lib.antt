@@ -1,0 +1,10 @@
+pub mod Bytes
+pub mod Pieces
+pub mod Numbers
+pub mod Components
+pub mod Terms
+pub mod Sums
+pub mod Triplets
+pub mod Fractions
+pub mod Printing
+pub mod Lines

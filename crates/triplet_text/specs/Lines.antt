@@ -1,0 +1,75 @@
+-- The lines of an input: what they say, and which of them is the first bad one. Lines are counted from 1.
+use Rattle.std.specs.Prelude.{◌≡◌, ◌==◌, ◌⊎◌, if◌then◌else◌, ℕ, ◌+◌, Bool, true, false, List, [], ◌∷◌, ◌++◌, length, Option, Some, None}
+use Rattle.std.specs.List.{All, filter_map, slice_split}
+use Rattle.exact_ops.specs.Matrix.{IsUnimodular}
+use Rattle.exact_ops.specs.Operator.{Operator}
+use Rattle.triplet_text.specs.declared.lines.LineFault.{LineFault}
+use Rattle.triplet_text.specs.declared.lines.LineFault.TheVariants.{Unreadable, NotUnimodular, NoMemory}
+use Rattle.triplet_text.specs.Bytes.{is_blank, line_feed}
+use Rattle.triplet_text.specs.Triplets.{triplet_of}
+
+-- cut at each line feed; what follows the last one is a line too
+abbrev pub lines_of : List ℕ → List (List ℕ)
+lines_of bytes = slice_split (λ byte. byte == line_feed) bytes
+
+-- each byte is a blank, or the first that is none is '#'
+abbrev pub is_skipped : List ℕ → Bool
+is_skipped [] = true
+is_skipped (byte ∷ line) = if is_blank byte then is_skipped line else byte == 35
+
+-- what a line says: nothing where it is skipped
+abbrev pub said_by : List ℕ → Option Operator
+said_by line = if is_skipped line then None else triplet_of line
+
+-- what the lines say, in order
+abbrev pub operators_of : List (List ℕ) → List Operator
+operators_of lines = filter_map said_by lines
+
+-- a line that is not skipped and is no triplet
+pub record IsUnreadable (line : List ℕ) : Type 0 where
+  pub kept : is_skipped line ≡ false
+  pub no_triplet : triplet_of line ≡ None
+
+-- a line that is not skipped and is a triplet whose matrix has no whole inverse
+pub record IsNotUnimodular (line : List ℕ) : Type 0 where
+  pub kept : is_skipped line ≡ false
+  pub operator : Operator
+  pub triplet : triplet_of line ≡ Some operator
+  pub not_unimodular : ¬ IsUnimodular operator.w
+
+-- a line that is not skipped and is a triplet whose matrix has a whole inverse
+pub record IsRead (line : List ℕ) : Type 0 where
+  pub kept : is_skipped line ≡ false
+  pub operator : Operator
+  pub triplet : triplet_of line ≡ Some operator
+  pub unimodular : IsUnimodular operator.w
+
+abbrev pub IsGood : List ℕ → Type 0
+IsGood line = (is_skipped line ≡ true) ⊎ IsRead line
+
+-- every line is good, and the list has what they say
+pub record AreRead (lines : List (List ℕ)) (list : List Operator) : Type 0 where
+  pub good : All IsGood lines
+  pub operators : list ≡ operators_of lines
+
+-- line k is bad, and each line before it is good
+pub record IsFirstBad (Bad : List ℕ → Type 0) (lines : List (List ℕ)) (k : ℕ) : Type 0 where
+  pub before : List (List ℕ)
+  pub line : List ℕ
+  pub after : List (List ℕ)
+  pub cut : lines ≡ before ++ line ∷ after
+  pub good : All IsGood before
+  pub number : k ≡ length before + 1
+  pub bad : Bad line
+
+-- a fault names the first bad line by its kind; nothing is said of want of memory
+abbrev pub IsFaultOf : List (List ℕ) → LineFault → Type 0
+IsFaultOf lines (Unreadable k) = IsFirstBad IsUnreadable lines k
+IsFaultOf lines (NotUnimodular k) = IsFirstBad IsNotUnimodular lines k
+IsFaultOf lines NoMemory = Unit {0}
+
+-- a fault names line k, by its kind
+abbrev pub IsFaultAt : ℕ → List ℕ → LineFault → Type 0
+IsFaultAt k line (Unreadable n) = (n ≡ k) × IsUnreadable line
+IsFaultAt k line (NotUnimodular n) = (n ≡ k) × IsNotUnimodular line
+IsFaultAt k line NoMemory = Unit {0}

@@ -1,0 +1,21 @@
+//! Symmetry operators as text: `x,y+1/2,-z`. The coordinate triplets of International Tables A are read and printed.
+#![tactic(auto)]
+
+mod component;
+mod fraction;
+mod lines;
+mod number;
+mod pieces;
+mod printing;
+mod sum;
+mod term;
+mod text;
+mod triplet;
+
+pub use lines::{LineFault, read_lines};
+pub use printing::print_triplet;
+pub use text::Text;
+pub use triplet::read_triplet;
+
+#[cfg(test)]
+mod tests;

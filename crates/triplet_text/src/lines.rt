@@ -1,0 +1,87 @@
+ghost use Rattle.std.specs.Prelude.{◌≡◌, ◌==◌, ◌∷◌, [], ◌++◌, ◌<◌, ◌≤◌, MatchOption, OnOk, IfOk, IfErr, length, position};
+ghost use Rattle.triplet_text.specs.Bytes.{line_feed};
+ghost use Rattle.triplet_text.specs.Lines.{lines_of, is_skipped, operators_of, IsGood, AreRead, IsFaultAt, IsFaultOf};
+
+use crate::pieces::is_blank_byte;
+use crate::triplet::read_triplet;
+use exact_ops::{OpList, PushFault};
+use std::alloc::Global;
+
+/// Why lines could not be read. A line is bad where it is not skipped and is no triplet, or is one whose matrix has no
+/// whole inverse. A skipped line is blank, or its first byte that is no blank is `#`.
+#[derive(Clone, Copy, Debug, PartialEq, Eq, Drop)]
+pub enum LineFault {
+    /// The first bad line, counted from 1, is no triplet.
+    Unreadable(u32),
+    /// The first bad line, counted from 1, is a triplet whose matrix has no whole inverse.
+    NotUnimodular(u32),
+    NoMemory,
+}
+
+/// What the lines say that are not skipped, in order. Each line feed ends a line; what follows the last one is a line too.
+pub fn read_lines(alloc: Global, bytes: &[u8]) -> Result<OpList, LineFault>
+    requires { length bytes.now ≤ 1048576 }
+    ensures ok { IfOk result (AreRead (lines_of bytes.now)) }
+    ensures fault { IfErr result (IsFaultOf (lines_of bytes.now)) }
+{
+    let mut list = OpList::new(alloc);
+    let mut number = 1u32;
+    let mut rest = Some(bytes);
+    while let Some(text) = rest {
+        let (line, more) = cut_line(text);
+        if let Err(fault) = take_line(&mut list, number, line) {
+            return Err(fault);
+        }
+        number += 1;
+        rest = more;
+    }
+    Ok(list)
+}
+
+/// The first line, and what follows its line feed, where it has one.
+fn cut_line(bytes: &[u8]) -> (&[u8], Option<&[u8]>)
+    ensures lines { MatchOption result.1 (lines_of bytes.now ≡ result.0.now ∷ [])
+        (λ more. lines_of bytes.now ≡ result.0.now ∷ lines_of more.now) }
+    ensures shorter { MatchOption result.1 (result.0.now ≡ bytes.now) (λ more. length more.now < length bytes.now) }
+{
+    match first_feed(bytes) {
+        None => (bytes, None),
+        Some(at) => (&bytes[..at], Some(&bytes[at + 1..])),
+    }
+}
+
+fn first_feed(bytes: &[u8]) -> Option<usize>
+    ensures { result ≡ position (λ byte. byte == line_feed) bytes.now }
+{
+    bytes.iter().position(|byte| *byte == b'\n')
+}
+
+/// Adds what the line of this number says.
+fn take_line(list: &mut OpList, number: u32, line: &[u8]) -> Result<(), LineFault>
+    ensures good { OnOk result (IsGood line.now) }
+    ensures list { OnOk result (list.new ≡ list.old ++ operators_of (line.now ∷ [])) }
+    ensures fault { IfErr result (IsFaultAt number line.now) }
+{
+    if is_skipped_line(line) {
+        return Ok(());
+    }
+    let Some(raw) = read_triplet(line) else {
+        return Err(LineFault::Unreadable(number));
+    };
+    match list.push(&raw) {
+        Ok(()) => Ok(()),
+        Err(PushFault::NotUnimodular) => Err(LineFault::NotUnimodular(number)),
+        Err(PushFault::NoMemory) => Err(LineFault::NoMemory),
+    }
+}
+
+fn is_skipped_line(line: &[u8]) -> bool
+    ensures { result ≡ is_skipped line.now }
+{
+    for byte in line {
+        if !is_blank_byte(*byte) {
+            return *byte == b'#';
+        }
+    }
+    true
+}

@@ -1,0 +1,97 @@
+use super::*;
+use exact_ops::{Op, Raw, UNIT};
+use std::test::Fail;
+
+const PART: i32 = UNIT as i32 / 12;
+
+const SAME: [i32; 9] = [1, 0, 0, 0, 1, 0, 0, 0, 1];
+
+const TURN: [i32; 9] = [1, 0, 0, 0, -1, 0, 0, 0, -1];
+
+#[test]
+fn reads_triplets(rt: HostRuntime) {
+    for (line, w, t) in [
+        ("x,y,z", SAME, [0, 0, 0]),
+        ("' 1/2+X , -Y, .5 - Z '", TURN, [6, 0, 6]),
+        ("\"x+.50,-y,1/2-z\"", TURN, [6, 0, 6]),
+        ("x-0.5,-1*y,-z+6/12", TURN, [6, 0, 6]),
+        ("X + 1/2, -Y, -Z - 1/2\r", TURN, [6, 0, 6]),
+        ("2x-y,2*y,0", [2, -1, 0, 0, 2, 0, 0, 0, 0], [0, 0, 0]),
+        ("+x, y , z+7/6", SAME, [0, 0, 2]),
+        ("2 -x,-y,z", [-1, 0, 0, 0, -1, 0, 0, 0, 1], [0, 0, 0]),
+        ("x-1/4,y,z-.75", SAME, [9, 0, 3]),
+        ("x-y+x+y-x,1.+y+0.25,z-1/3-1/12", SAME, [0, 3, 7]),
+    ] {
+        let [a, b, c] = t;
+        let want = Raw::of(w, [a * PART, b * PART, c * PART]);
+        assert_eq!(rt; read_triplet(line.as_bytes()), want, "{line}");
+    }
+}
+
+#[test]
+fn refuses_other_lines(rt: HostRuntime) {
+    for line in [
+        "x,y",
+        "x,y,z,",
+        "x y,y,z",
+        "--x,y,z",
+        "x+1/5,y,z",
+        "1/2x,y,z",
+        "x,y,z+1/02",
+        "'",
+        "'x,y,z",
+        "''x,y,z''",
+        "12x,y,z",
+        "1 x,y,z",
+        "0.333,y,z",
+        "0.1,y,z",
+        "1234567,y,z",
+        "x,,z",
+        "",
+    ] {
+        assert!(rt; read_triplet(line.as_bytes()).is_none(), "{line}");
+    }
+    let mut long = [b' '; 256];
+    long[..5].copy_from_slice(b"x,y,z");
+    assert!(rt; read_triplet(&long[..255]).is_some());
+    assert!(rt; read_triplet(&long).is_none());
+}
+
+#[test]
+fn lists_what_lines_say(rt: HostRuntime) -> Result<(), Fail> {
+    let text = "# P2_1/c\n\n-x,y+1/2,-z+1/2\r\n \t\n-x,-y,-z";
+    let list = read_lines(rt.alloc(), text.as_bytes())?;
+    assert_eq!(rt; list.len(), 2);
+    assert_eq!(rt; Some(list.get(0)), read_triplet(b"-x,y+1/2,-z+1/2"));
+    assert_eq!(rt; Some(list.get(1)), read_triplet(b"-x,-y,-z"));
+    Ok(())
+}
+
+#[test]
+fn names_the_first_bad_line(rt: HostRuntime) {
+    for (text, fault) in [
+        ("x,y\nx,x,z", LineFault::Unreadable(1)),
+        ("#\nx,y,z\nx,x,z\nx,y", LineFault::NotUnimodular(3)),
+        ("x,y,z\n\nx\n", LineFault::Unreadable(3)),
+    ] {
+        let result = read_lines(rt.alloc(), text.as_bytes());
+        assert_eq!(rt; result.err(), Some(fault), "{text}");
+    }
+}
+
+#[test]
+fn prints_operators(rt: HostRuntime) -> Result<(), Fail> {
+    for (line, want) in [
+        ("x,y,z", "x,y,z"),
+        ("-x,.5+y,1/2-z", "-x,y+1/2,-z+1/2"),
+        ("-x,-y,-z", "-x,-y,-z"),
+        ("x,-y-1/2,z+6/12", "x,-y+1/2,z+1/2"),
+        ("x-1/12,y,z", "x+11/12,y,z"),
+        ("2y+x,y-2z,z+2/3", "x+2*y,y-2*z,z+2/3"),
+    ] {
+        let raw = read_triplet(line.as_bytes()).ok_or("no triplet")?;
+        let op = Op::of(&raw)?;
+        assert_eq!(rt; print_triplet(&op).bytes(), want.as_bytes(), "{line}");
+    }
+    Ok(())
+}

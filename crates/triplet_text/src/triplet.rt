@@ -1,0 +1,62 @@
+ghost use Rattle.std.specs.Prelude.{◌≡◌, ◌≤◌, ◌^◌, length};
+ghost use Rattle.std.specs.Option.{option_map};
+ghost use Rattle.exact_ops.specs.Operator.{IsPart};
+ghost use Rattle.exact_ops.specs.Numbers.{numbers};
+ghost use Rattle.triplet_text.specs.Components.{IsSumOf, Within};
+ghost use Rattle.triplet_text.specs.Triplets.{modulo_cell, operator_by, three_sums, components_of, triplet_of};
+
+use crate::component::Component;
+use crate::pieces::{cut_at, without_blanks, without_quotes};
+use crate::sum::read_sum;
+use exact_ops::{Raw, UNIT};
+
+/// What the line says: None exactly where it is not in the triplet grammar, which takes at most 255 bytes.
+pub fn read_triplet(line: &[u8]) -> Option<Raw>
+    ensures { option_map numbers result ≡ triplet_of line.now }
+{
+    if line.len() > 255 {
+        return None;
+    }
+    read_components(without_blanks(without_quotes(without_blanks(line))))
+}
+
+fn read_components(text: &[u8]) -> Option<Raw>
+    requires { length text.now ≤ 255 }
+    ensures { option_map numbers result ≡ components_of text.now }
+{
+    let (first, rest) = cut_at(text, b',')?;
+    let (second, third) = cut_at(rest, b',')?;
+    read_sums(first, second, third)
+}
+
+fn read_sums(first: &[u8], second: &[u8], third: &[u8]) -> Option<Raw>
+    requires first { length first.now ≤ 255 }
+    requires second { length second.now ≤ 255 }
+    requires third { length third.now ≤ 255 }
+    ensures { option_map numbers result ≡ three_sums first.now second.now third.now }
+{
+    let a = read_sum(first)?;
+    let b = read_sum(second)?;
+    let c = read_sum(third)?;
+    Some(with_rows(&a, &b, &c))
+}
+
+fn with_rows(a: &Component, b: &Component, c: &Component) -> Raw
+    requires a { IsSumOf 256 a.now }
+    requires b { IsSumOf 256 b.now }
+    requires c { IsSumOf 256 c.now }
+    ensures { numbers result ≡ operator_by a.now b.now c.now }
+{
+    let w = [a.x, a.y, a.z, b.x, b.y, b.z, c.x, c.y, c.z];
+    let t = [in_cell(a.parts), in_cell(b.parts), in_cell(c.parts)];
+    Raw { w, t }
+}
+
+/// The parts modulo the cell.
+fn in_cell(parts: i64) -> i32
+    requires { Within (10 ^ 17) parts }
+    ensures value { result ≡ modulo_cell parts }
+    ensures part { IsPart UNIT result }
+{
+    parts.rem_euclid(i64::from(UNIT)) as i32
+}
