@@ -1,5 +1,4 @@
-pub mod Cuts
-pub mod LinesLeft
 pub mod Outcomes
+pub mod Printing
 pub mod Unique
 pub mod WordsLists

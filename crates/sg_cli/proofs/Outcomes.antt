@@ -7,13 +7,21 @@ use Rattle.sg_io.specs.declared.sink.SinkStop.{SinkStop}
 use Rattle.sg_io.specs.declared.sink.SinkStop.TheVariants as sinks
 use Rattle.sg_io.specs.Bytes.{AppendsFront}
 use Rattle.sg_io.specs.Count.{Rose}
+use Rattle.exact_ops.specs.Operator.{Operator}
+use Rattle.triplet_text.specs.Lines.{lines_of, AreRead}
+use Rattle.group_closure.specs.declared.group.CloseFault.{CloseFault}
+use Rattle.group_closure.specs.declared.group.CloseFault.TheVariants as closes
+use Rattle.group_closure.specs.Words.{Closes, IsUnclosed}
+use Rattle.group_closure.specs.GroupList.{IsGroupList}
 use Rattle.sg_cli.specs.declared.TheConstants.{MAX_INPUT}
 use Rattle.sg_cli.specs.declared.words.Command.{Command}
+use Rattle.sg_cli.specs.declared.words.Command.TheVariants.{Ops}
 use Rattle.sg_cli.specs.Words.{IsCommand}
+use Rattle.sg_cli.specs.Operators.{operator_lines}
 use Rattle.sg_cli.specs.declared.fault.Fault.{Fault}
 use Rattle.sg_cli.specs.declared.fault.Fault.TheVariants as fault
-use Rattle.sg_cli.specs.Fault.{status_of}
-use Rattle.sg_cli.specs.Answer.{Printed, Refused, IsAnswer}
+use Rattle.sg_cli.specs.Fault.{status_of, fault_of_close, fault_of_write}
+use Rattle.sg_cli.specs.Answer.{Printed, Refused, IsAnswer, text_for}
 use Rattle.sg_cli.specs.Run.{before_writing, HasStatus, IsTold, Completes}
 use Rattle.sg_cli.specs.Seen.{SeenSource, SeenSink}
 use Rattle.sg_cli.specs.Serve.{Answers, Serves}
@@ -82,5 +90,26 @@ module _ {S K : Type 0} (sink : SeenSink K) (source : SeenSource S) (words : Lis
   served command bytes (Err fault.Reading) is taken end short h = absurd h.0
   served command bytes (Err fault.TooLong) is taken end short h = absurd h.0
   served command bytes (Err fault.Writing) is taken end short h = (end, all_told _ _ bytes _ taken end (h.0.0, (command, is, short, h.0.1), h.0.2), h.1)
-  served command bytes (Err fault.NoMemory) is taken end short h = inr (h.1, all_told _ _ bytes _ taken end (h.0.0, (command, is, short, h.0.1), h.0.2))
+  served command bytes (Err fault.NoMemory) is taken end short (inl same) = inl same
+  served command bytes (Err fault.NoMemory) is taken end short (inr h) = inr (h.0, all_told _ _ bytes _ taken end (h.1.0, (command, is, short, h.1.1), h.1.2))
   served command bytes (Err other) is taken end short h = (end, all_told _ _ bytes _ taken end (command, is, short, h.0), h.1)
+
+-- the one command
+pub ops_text : (command : Command) (members : List Operator) → operator_lines members ≡ text_for command members
+ops_text Ops members = refl
+
+-- ---- from what reading, closing and printing did to what answering a command did
+
+module _ {K : Type 0} (sink : SeenSink K) (command : Command) (bytes : List ℕ) (old : K) (list : List Operator) (read : AreRead (lines_of bytes) list) where
+  pub not_closed : (stop : CloseFault) → (stop ≡ closes.Unclosed → IsUnclosed list) → Answers sink command bytes old old (Err (fault_of_close stop))
+  not_closed closes.Unclosed h = (record { list = list; read = read; unclosed = h refl }, refl)
+  not_closed closes.NoMemory h = inl refl
+
+  module _ (members : List Operator) (closed : Closes list) (group : IsGroupList list members) (new : K) where
+    pub printed : Appends (sink.held old) (sink.held new) (text_for command members) → Answers sink command bytes old new (Ok tt)
+    printed p = (text_for command members, (members, record { list = list; read = read; closes = closed; group = group }, refl), p)
+
+    pub not_printed : (stop : SinkStop) → AppendsFront (sink.held old) (sink.held new) (text_for command members) → (stop ≡ sinks.Failed → Rose (sink.faults old) (sink.faults new)) → (stop ≡ sinks.NoMemory → Rose (sink.wants old) (sink.wants new))
+        → Answers sink command bytes old new (Err (fault_of_write stop))
+    not_printed sinks.Failed p failed no_memory = ((text_for command members, (members, record { list = list; read = read; closes = closed; group = group }, refl), p), failed refl)
+    not_printed sinks.NoMemory p failed no_memory = inr (no_memory refl, (text_for command members, (members, record { list = list; read = read; closes = closed; group = group }, refl), p))

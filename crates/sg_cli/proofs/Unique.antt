@@ -1,48 +1,49 @@
 -- There is one answer at most.
-use Rattle.std.proofs.Common.{◌≡◌, ℕ, List, [], ◌∷◌, ◌++◌, refl, sym, ap, subst, ◌∙◌, length, arith, true, false}
-use Rattle.std.proofs.lemmas.List.Elements.{All-head, All-tail}
-use Rattle.sg_cli.specs.declared.fault.Fault.TheVariants.{Words, TooLong, Unreadable}
+use Rattle.std.proofs.Common.{◌≡◌, ℕ, List, refl, sym, ap, subst, ◌∙◌, arith}
+use Rattle.exact_ops.specs.Operator.{Operator}
+use Rattle.triplet_text.specs.Lines.{lines_of, IsUnreadable, IsNotUnimodular}
+use Rattle.triplet_text.proofs.LineLaws.{unreadable_are_bad, not_unimodular_are_bad, none_bad, same_place, both_kinds, same_list}
+use Rattle.group_closure.specs.Words.{IsUnclosed}
+use Rattle.group_closure.specs.GroupList.{IsGroupList}
+use Rattle.group_closure.proofs.Lists.{one_list, not_closing}
+use Rattle.sg_cli.specs.declared.fault.Fault.TheVariants.{Words, TooLong, Unreadable, NotUnimodular, Unclosed}
 use Rattle.sg_cli.specs.declared.words.Command.{Command}
 use Rattle.sg_cli.specs.declared.words.Command.TheVariants.{Ops}
 use Rattle.sg_cli.specs.Words.{IsCommand}
-use Rattle.sg_cli.specs.Lines.{is_skipped, lines_of, IsSkipped, HasNoBadLine, IsFirstBadLine}
-use Rattle.sg_cli.specs.Answer.{Answer, Printed, Refused, IsAnswer, IsAnswerTo}
+use Rattle.sg_cli.specs.Answer.{Answer, Printed, Refused, IsAnswer, IsAnswerTo, IsGroupOf, DoNotClose, text_for}
 
--- a bad line is none of the good ones before it
-not_among : (before : List (List ℕ)) (line first : List ℕ) → is_skipped line ≡ false → HasNoBadLine (first ∷ before) → line ≡ first → ⊥
-not_among before line first bad good is = let e : true ≡ false = sym (All-head IsSkipped first before good) ∙ ap is_skipped (sym is) ∙ bad in cc
+one_group : (bytes : List ℕ) (a b : List Operator) → IsGroupOf bytes a → IsGroupOf bytes b → a ≡ b
+one_group bytes a b p q =
+    let same = same_list (lines_of bytes) p.list q.list p.read q.read in
+    one_list q.list a b (subst (λ (list : List Operator). IsGroupList list a) same p.group) q.group
 
-bad_within : (before after : List (List ℕ)) (line : List ℕ) → is_skipped line ≡ false → HasNoBadLine (before ++ line ∷ after) → ⊥
-bad_within [] after line bad good = not_among after line line bad good refl
-bad_within (first ∷ before) after line bad good = bad_within before after line bad (All-tail IsSkipped first _ good)
-
-not_both : (lines : List (List ℕ)) (k : ℕ) → IsFirstBadLine lines k → HasNoBadLine lines → ⊥
-not_both lines k bad good = bad_within bad.before bad.after bad.line bad.bad (subst HasNoBadLine bad.cut good)
-
--- two lists of good lines before a bad one, in one list
-one_place : (b c p q : List (List ℕ)) (x y : List ℕ) → b ++ x ∷ p ≡ c ++ y ∷ q → HasNoBadLine b → HasNoBadLine c → is_skipped x ≡ false → is_skipped y ≡ false → length b ≡ length c
-one_place [] [] p q x y e good_b good_c bad_x bad_y = refl
-one_place [] (z ∷ c) p q x y e good_b good_c bad_x bad_y = absurd (not_among c x z bad_x good_c cc)
-one_place (z ∷ b) [] p q x y e good_b good_c bad_x bad_y = absurd (not_among b y z bad_y good_b cc)
-one_place (z ∷ b) (w ∷ c) p q x y e good_b good_c bad_x bad_y =
-    let rest : b ++ x ∷ p ≡ c ++ y ∷ q = cc in
-    omega (arith, one_place b c p q x y rest (All-tail IsSkipped z b good_b) (All-tail IsSkipped w c good_c) bad_x bad_y)
-
-one_line : (lines : List (List ℕ)) (j k : ℕ) → IsFirstBadLine lines j → IsFirstBadLine lines k → j ≡ k
-one_line lines j k p q =
-    let same : length p.before ≡ length q.before = one_place p.before q.before p.after q.after p.line q.line (sym p.cut ∙ q.cut) p.good q.good p.bad q.bad in
-    omega (arith, p.number, q.number)
+closes_or_not : (bytes : List ℕ) (members : List Operator) → IsGroupOf bytes members → DoNotClose bytes → ⊥
+closes_or_not bytes members p q = not_closing p.list (subst IsUnclosed (same_list (lines_of bytes) q.list p.list q.read p.read) q.unclosed) p.closes
 
 one_command : (words : List (List ℕ)) (c d : Command) → IsCommand words c → IsCommand words d → c ≡ d
 one_command words Ops Ops p q = refl
 
 one_answer_to : (command : Command) (bytes : List ℕ) (a b : Answer) → IsAnswerTo command bytes a → IsAnswerTo command bytes b → a ≡ b
-one_answer_to command bytes (Printed s) (Printed t) p q = ap Printed (p.1 ∙ sym q.1)
-one_answer_to command bytes (Printed s) (Refused (Unreadable k)) p q = absurd (not_both (lines_of bytes) k q p.0)
+one_answer_to command bytes (Printed s) (Printed t) p q = ap Printed (p.2 ∙ ap (text_for command) (one_group bytes p.0 q.0 p.1 q.1) ∙ sym q.2)
+one_answer_to command bytes (Printed s) (Refused (Unreadable k)) p q = absurd (none_bad IsUnreadable _ _ k unreadable_are_bad p.1.read q)
+one_answer_to command bytes (Printed s) (Refused (NotUnimodular k)) p q = absurd (none_bad IsNotUnimodular _ _ k not_unimodular_are_bad p.1.read q)
+one_answer_to command bytes (Printed s) (Refused Unclosed) p q = absurd (closes_or_not bytes p.0 p.1 q)
 one_answer_to command bytes (Printed s) (Refused _) p q = absurd q
-one_answer_to command bytes (Refused (Unreadable j)) (Printed t) p q = absurd (not_both (lines_of bytes) j p q.0)
-one_answer_to command bytes (Refused (Unreadable j)) (Refused (Unreadable k)) p q = ap (λ (n : ℕ). Refused (Unreadable n)) (one_line (lines_of bytes) j k p q)
+one_answer_to command bytes (Refused (Unreadable j)) (Printed t) p q = absurd (none_bad IsUnreadable _ _ j unreadable_are_bad q.1.read p)
+one_answer_to command bytes (Refused (Unreadable j)) (Refused (Unreadable k)) p q = ap (λ (n : ℕ). Refused (Unreadable n)) (same_place IsUnreadable IsUnreadable _ j k unreadable_are_bad unreadable_are_bad p q).0
+one_answer_to command bytes (Refused (Unreadable j)) (Refused (NotUnimodular k)) p q = absurd (both_kinds _ j k p q)
+one_answer_to command bytes (Refused (Unreadable j)) (Refused Unclosed) p q = absurd (none_bad IsUnreadable _ _ j unreadable_are_bad q.read p)
 one_answer_to command bytes (Refused (Unreadable j)) (Refused _) p q = absurd q
+one_answer_to command bytes (Refused (NotUnimodular j)) (Printed t) p q = absurd (none_bad IsNotUnimodular _ _ j not_unimodular_are_bad q.1.read p)
+one_answer_to command bytes (Refused (NotUnimodular j)) (Refused (Unreadable k)) p q = absurd (both_kinds _ k j q p)
+one_answer_to command bytes (Refused (NotUnimodular j)) (Refused (NotUnimodular k)) p q = ap (λ (n : ℕ). Refused (NotUnimodular n)) (same_place IsNotUnimodular IsNotUnimodular _ j k not_unimodular_are_bad not_unimodular_are_bad p q).0
+one_answer_to command bytes (Refused (NotUnimodular j)) (Refused Unclosed) p q = absurd (none_bad IsNotUnimodular _ _ j not_unimodular_are_bad q.read p)
+one_answer_to command bytes (Refused (NotUnimodular j)) (Refused _) p q = absurd q
+one_answer_to command bytes (Refused Unclosed) (Printed t) p q = absurd (closes_or_not bytes q.0 q.1 p)
+one_answer_to command bytes (Refused Unclosed) (Refused (Unreadable k)) p q = absurd (none_bad IsUnreadable _ _ k unreadable_are_bad p.read q)
+one_answer_to command bytes (Refused Unclosed) (Refused (NotUnimodular k)) p q = absurd (none_bad IsNotUnimodular _ _ k not_unimodular_are_bad p.read q)
+one_answer_to command bytes (Refused Unclosed) (Refused Unclosed) p q = refl
+one_answer_to command bytes (Refused Unclosed) (Refused _) p q = absurd q
 one_answer_to command bytes (Refused _) b p q = absurd p
 
 pub one_answer : (words : List (List ℕ)) (bytes : List ℕ) (a b : Answer) → IsAnswer words bytes a → IsAnswer words bytes b → a ≡ b

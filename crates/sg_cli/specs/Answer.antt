@@ -1,13 +1,17 @@
 -- What is answered to words over the bytes of an input.
-use Rattle.std.specs.Prelude.{◌≡◌, ◌≤◌, ◌<◌, List, ℕ, length, codes}
+use Rattle.std.specs.Prelude.{◌≡◌, ◌≤◌, ◌<◌, List, ℕ, length}
+use Rattle.exact_ops.specs.Operator.{Operator}
+use Rattle.triplet_text.specs.Lines.{lines_of, AreRead, IsFirstBad, IsUnreadable, IsNotUnimodular}
+use Rattle.group_closure.specs.Words.{Closes, IsUnclosed}
+use Rattle.group_closure.specs.GroupList.{IsGroupList}
 use Rattle.sg_cli.specs.declared.TheConstants.{MAX_INPUT}
 use Rattle.sg_cli.specs.declared.fault.Fault.{Fault}
-use Rattle.sg_cli.specs.declared.fault.Fault.TheVariants.{Words, TooLong, Unreadable}
+use Rattle.sg_cli.specs.declared.fault.Fault.TheVariants.{Words, TooLong, Unreadable, NotUnimodular, Unclosed}
 use Rattle.sg_cli.specs.declared.words.Command.{Command}
 use Rattle.sg_cli.specs.declared.words.Command.TheVariants.{Ops}
 use Rattle.sg_cli.specs.Words.{IsCommand, IsNoCommand}
 use Rattle.sg_cli.specs.Fault.{status_of}
-use Rattle.sg_cli.specs.Lines.{lines_of, IsFirstBadLine, HasNoBadLine}
+use Rattle.sg_cli.specs.Operators.{operator_lines}
 
 -- a text, or a refusal
 pub data Answer : Type 0 where
@@ -19,15 +23,30 @@ abbrev pub status_of_answer : Answer → ℕ
 status_of_answer (Printed text) = 0
 status_of_answer (Refused fault) = status_of fault
 
--- what a command prints
-abbrev pub text_for : Command → List ℕ
-text_for Ops = codes "x,y,z\n"
+-- the group of the operators that the bytes list
+pub record IsGroupOf (bytes : List ℕ) (members : List Operator) : Type 0 where
+  pub list : List Operator
+  pub read : AreRead (lines_of bytes) list
+  pub closes : Closes list
+  pub group : IsGroupList list members
+
+-- the bytes list operators that do not close
+pub record DoNotClose (bytes : List ℕ) : Type 0 where
+  pub list : List Operator
+  pub read : AreRead (lines_of bytes) list
+  pub unclosed : IsUnclosed list
+
+-- what a command prints of a group
+abbrev pub text_for : Command → List Operator → List ℕ
+text_for Ops members = operator_lines members
 
 -- the answer to a command over an input that is not too long: the first line that applies
 abbrev pub IsAnswerTo : Command → List ℕ → Answer → Type 0
-IsAnswerTo command bytes (Refused (Unreadable line)) = IsFirstBadLine (lines_of bytes) line
+IsAnswerTo command bytes (Refused (Unreadable line)) = IsFirstBad IsUnreadable (lines_of bytes) line
+IsAnswerTo command bytes (Refused (NotUnimodular line)) = IsFirstBad IsNotUnimodular (lines_of bytes) line
+IsAnswerTo command bytes (Refused Unclosed) = DoNotClose bytes
 IsAnswerTo command bytes (Refused _) = ⊥
-IsAnswerTo command bytes (Printed text) = HasNoBadLine (lines_of bytes) × (text ≡ text_for command)
+IsAnswerTo command bytes (Printed text) = (members : List Operator) × IsGroupOf bytes members × (text ≡ text_for command members)
 
 -- the answer to words over an input: the first line that applies
 abbrev pub IsAnswer : List (List ℕ) → List ℕ → Answer → Type 0

@@ -4,8 +4,12 @@ use Rattle.sg_io.specs.declared.sink.SinkStop.{SinkStop}
 use Rattle.sg_io.specs.declared.sink.SinkStop.TheVariants as sinks
 use Rattle.sg_io.specs.declared.source.ReadStop.{ReadStop}
 use Rattle.sg_io.specs.declared.source.ReadStop.TheVariants as reads
+use Rattle.triplet_text.specs.declared.lines.LineFault.{LineFault}
+use Rattle.triplet_text.specs.declared.lines.LineFault.TheVariants as lines
+use Rattle.group_closure.specs.declared.group.CloseFault.{CloseFault}
+use Rattle.group_closure.specs.declared.group.CloseFault.TheVariants as closes
 use Rattle.sg_cli.specs.declared.fault.Fault.{Fault}
-use Rattle.sg_cli.specs.declared.fault.Fault.TheVariants.{Words, Reading, TooLong, Unreadable, Writing, NoMemory}
+use Rattle.sg_cli.specs.declared.fault.Fault.TheVariants.{Words, Reading, TooLong, Unreadable, NotUnimodular, Unclosed, Writing, NoMemory}
 
 -- the status that the program ends with
 abbrev pub status_of : Fault → ℕ
@@ -13,6 +17,8 @@ status_of Words = 2
 status_of Reading = 3
 status_of TooLong = 10
 status_of (Unreadable line) = 5
+status_of (NotUnimodular line) = 6
+status_of Unclosed = 7
 status_of Writing = 4
 status_of NoMemory = 9
 
@@ -22,6 +28,8 @@ text_of Words = codes "sg: words are not a command in range\n"
 text_of Reading = codes "sg: reading failed\n"
 text_of TooLong = codes "sg: input too long\n"
 text_of (Unreadable line) = codes "sg: line " ++ decimal line ++ codes ": not a triplet\n"
+text_of (NotUnimodular line) = codes "sg: line " ++ decimal line ++ codes ": not unimodular\n"
+text_of Unclosed = codes "sg: operators do not close\n"
 text_of Writing = codes "sg: writing failed\n"
 text_of NoMemory = codes "sg: no memory\n"
 
@@ -30,6 +38,17 @@ abbrev pub fault_of_read : ReadStop → Fault
 fault_of_read reads.NoMemory = NoMemory
 fault_of_read reads.Failed = Reading
 fault_of_read reads.TooLong = TooLong
+
+-- what lines that could not be read are as a fault
+abbrev pub fault_of_lines : LineFault → Fault
+fault_of_lines (lines.Unreadable line) = Unreadable line
+fault_of_lines (lines.NotUnimodular line) = NotUnimodular line
+fault_of_lines lines.NoMemory = NoMemory
+
+-- what a list that was not closed is as a fault
+abbrev pub fault_of_close : CloseFault → Fault
+fault_of_close closes.Unclosed = Unclosed
+fault_of_close closes.NoMemory = NoMemory
 
 -- what a write to the output that stopped is as a fault
 abbrev pub fault_of_write : SinkStop → Fault

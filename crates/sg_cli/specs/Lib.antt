@@ -1,6 +1,6 @@
 pub mod Answer
 pub mod Fault
-pub mod Lines
+pub mod Operators
 pub mod Run
 pub mod Seen
 pub mod Serve

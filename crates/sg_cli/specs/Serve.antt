@@ -23,7 +23,7 @@ module _ {K : Type 0} (sink : SeenSink K) where
   abbrev pub Answers : Command → List ℕ → K → K → Result (Unit {0}) Fault → Type 0
   Answers command bytes old new (Ok done) = PrintsSuch command bytes (Appends (held old) (held new))
   Answers command bytes old new (Err fault.Writing) = PrintsSuch command bytes (AppendsFront (held old) (held new)) × Rose (faults old) (faults new)
-  Answers command bytes old new (Err fault.NoMemory) = PrintsSuch command bytes (AppendsFront (held old) (held new)) × Rose (wants old) (wants new)
+  Answers command bytes old new (Err fault.NoMemory) = (new ≡ old) ⊎ (Rose (wants old) (wants new) × PrintsSuch command bytes (AppendsFront (held old) (held new)))
   Answers command bytes old new (Err other) = IsAnswerTo command bytes (Refused other) × (new ≡ old)
 
   module _ {S : Type 0} (source : SeenSource S) where

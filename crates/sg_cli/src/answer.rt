@@ -11,27 +11,33 @@ ghost use Rattle.sg_cli.specs.Words.{IsNoCommand, texts};
 
 use crate::MAX_INPUT;
 use crate::fault::Fault;
-use crate::lines::first_bad_line;
+use crate::operators::print_ops;
 use crate::words::{Command, read_words};
+use group_closure::Group;
 use sg_io::{Sink, Source, put_all, read_all};
 use std::alloc::Global;
+use triplet_text::read_lines;
 
 /// Words and bytes have one answer at most.
 pub fn answer_is_unique()
     ensures { (words : List (List ℕ)) (bytes : List ℕ) (a b : Answer) → IsAnswer words bytes a → IsAnswer words bytes b → a ≡ b }
 {}
 
-/// Prints the answer to the command, where there is one.
-fn print_answer<K: Sink>(command: Command, bytes: &[u8], out: &mut K) -> Result<(), Fault>
+/// Prints the answer to the command, where there is one. All memory is taken before the first byte is written.
+fn print_answer<K: Sink>(
+    alloc: Global,
+    command: Command,
+    bytes: &[u8],
+    out: &mut K,
+) -> Result<(), Fault>
     requires { length bytes.now ≤ MAX_INPUT }
     ensures { Answers (record { held = K.held; faults = K.faults; wants = K.wants })
         command bytes.now out.old out.new result }
 {
-    if let Some(line) = first_bad_line(bytes) {
-        return Err(Fault::Unreadable(line));
-    }
+    let list = read_lines(alloc, bytes)?;
+    let group = Group::close(alloc, &list)?;
     match command {
-        Command::Ops => put_all(out, b"x,y,z\n")?,
+        Command::Ops => print_ops(&group, out)?,
     }
     Ok(())
 }
@@ -50,7 +56,7 @@ fn serve<S: Source, K: Sink>(
         return Err(Fault::Words);
     };
     let bytes = read_all(alloc, source, MAX_INPUT)?;
-    print_answer(command, &bytes, out)
+    print_answer(alloc, command, &bytes, out)
 }
 
 /// Writes the text of the fault. Where the write is refused, nothing more comes of it.

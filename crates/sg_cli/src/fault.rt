@@ -1,9 +1,11 @@
 ghost use Rattle.std.specs.Prelude.{◌≡◌};
-ghost use Rattle.sg_cli.specs.Fault.{fault_of_read, fault_of_write, status_of, text_of};
+ghost use Rattle.sg_cli.specs.Fault.{fault_of_read, fault_of_lines, fault_of_close, fault_of_write, status_of, text_of};
 
-use crate::fault_text::FaultText;
+use crate::line::Line;
+use group_closure::CloseFault;
 use itoa::Buffer;
 use sg_io::{ReadStop, SinkStop};
+use triplet_text::LineFault;
 
 /// Why no answer, or not the whole of it, was printed.
 #[derive(Clone, Copy, Debug, PartialEq, Eq)]
@@ -14,8 +16,12 @@ pub enum Fault {
     Reading,
     /// The input has more bytes than are allowed.
     TooLong,
-    /// The line of this number, counted from 1, is no triplet.
+    /// The first bad line has this number, counted from 1, and is no triplet.
     Unreadable(u32),
+    /// The first bad line has this number, and is a triplet whose matrix has no whole inverse.
+    NotUnimodular(u32),
+    /// The operators generate more than 192, or one with an entry outside -2..=2.
+    Unclosed,
     /// The output could not be written.
     Writing,
     /// Memory was wanted.
@@ -32,16 +38,18 @@ impl Fault {
             Fault::Reading => 3,
             Fault::TooLong => 10,
             Fault::Unreadable(_) => 5,
+            Fault::NotUnimodular(_) => 6,
+            Fault::Unclosed => 7,
             Fault::Writing => 4,
             Fault::NoMemory => 9,
         }
     }
 
     /// The line that is told of it, with its line feed.
-    pub fn text(self) -> FaultText
+    pub fn text(self) -> Line
         ensures { result ≡ text_of self }
     {
-        let mut text = FaultText::new();
+        let mut text = Line::new();
         match self {
             Fault::Words => text.push(b"sg: words are not a command in range\n"),
             Fault::Reading => text.push(b"sg: reading failed\n"),
@@ -51,6 +59,12 @@ impl Fault {
                 text.push(Buffer::new().format(line).as_bytes());
                 text.push(b": not a triplet\n");
             }
+            Fault::NotUnimodular(line) => {
+                text.push(b"sg: line ");
+                text.push(Buffer::new().format(line).as_bytes());
+                text.push(b": not unimodular\n");
+            }
+            Fault::Unclosed => text.push(b"sg: operators do not close\n"),
             Fault::Writing => text.push(b"sg: writing failed\n"),
             Fault::NoMemory => text.push(b"sg: no memory\n"),
         }
@@ -66,6 +80,29 @@ impl From<ReadStop> for Fault {
             ReadStop::NoMemory => Fault::NoMemory,
             ReadStop::Failed => Fault::Reading,
             ReadStop::TooLong => Fault::TooLong,
+        }
+    }
+}
+
+impl From<LineFault> for Fault {
+    ghost from_gives = { λ stop fault. fault ≡ fault_of_lines stop };
+
+    fn from(stop: LineFault) -> Fault {
+        match stop {
+            LineFault::Unreadable(line) => Fault::Unreadable(line),
+            LineFault::NotUnimodular(line) => Fault::NotUnimodular(line),
+            LineFault::NoMemory => Fault::NoMemory,
+        }
+    }
+}
+
+impl From<CloseFault> for Fault {
+    ghost from_gives = { λ stop fault. fault ≡ fault_of_close stop };
+
+    fn from(stop: CloseFault) -> Fault {
+        match stop {
+            CloseFault::Unclosed => Fault::Unclosed,
+            CloseFault::NoMemory => Fault::NoMemory,
         }
     }
 }

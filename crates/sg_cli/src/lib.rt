@@ -3,13 +3,13 @@
 
 mod answer;
 mod fault;
-mod fault_text;
-mod lines;
+mod line;
+mod operators;
 mod words;
 
 pub use answer::{answer_is_unique, run, tell};
 pub use fault::Fault;
-pub use fault_text::FaultText;
+pub use line::Line;
 pub use words::{Command, read_words};
 
 /// The greatest number of bytes that an input may have.

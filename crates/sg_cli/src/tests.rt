@@ -30,17 +30,10 @@ const CALLS: [Call; 7] = [
     },
     Call {
         words: &["ops"],
-        input: b"# none\n \t\r\n",
+        input: b"# none\n \t\r\n-x,y+1/2,-z",
         status: 0,
-        output: b"x,y,z\n",
+        output: b"x,y,z\n-x,y+1/2,-z\n",
         fault_text: b"",
-    },
-    Call {
-        words: &["ops"],
-        input: b"1 x,y,z",
-        status: 5,
-        output: b"",
-        fault_text: b"sg: line 1: not a triplet\n",
     },
     Call {
         words: &["ops"],
@@ -48,6 +41,20 @@ const CALLS: [Call; 7] = [
         status: 5,
         output: b"",
         fault_text: b"sg: line 12: not a triplet\n",
+    },
+    Call {
+        words: &["ops"],
+        input: b"x,y,z\nx,x,z",
+        status: 6,
+        output: b"",
+        fault_text: b"sg: line 2: not unimodular\n",
+    },
+    Call {
+        words: &["ops"],
+        input: b"x+y,y,z",
+        status: 7,
+        output: b"",
+        fault_text: b"sg: operators do not close\n",
     },
     Call {
         words: &[],
@@ -58,13 +65,6 @@ const CALLS: [Call; 7] = [
     },
     Call {
         words: &["ops", "ops"],
-        input: b"",
-        status: 2,
-        output: b"",
-        fault_text: b"sg: words are not a command in range\n",
-    },
-    Call {
-        words: &["help"],
         input: b"",
         status: 2,
         output: b"",
@@ -86,22 +86,6 @@ fn calls_answer(rt: HostRuntime) -> Result<(), Fail> {
         assert_eq!(rt; status, call.status, "call {number}");
         assert_eq!(rt; out.held(), call.output, "call {number}");
         assert_eq!(rt; err.held(), call.fault_text, "call {number}");
-    }
-    Ok(())
-}
-
-#[test]
-fn input_may_have_a_mebibyte_and_no_more(rt: HostRuntime) -> Result<(), Fail> {
-    let alloc = rt.alloc();
-    let words = words_of(alloc, &["ops"])?;
-    for (more, status, fault_text) in [(0, 0, b"".as_slice()), (1, 10, b"sg: input too long\n")] {
-        let mut input = vec![in alloc; b'a'; MAX_INPUT as usize + more]?;
-        input[0] = b'#';
-        let mut source = NoFailSource::new(alloc, &input, 4096).ok().ok_or("memory")?;
-        let mut out = NoFailSink::new(alloc, 64);
-        let mut err = NoFailSink::new(alloc, 64);
-        assert_eq!(rt; run(alloc, &words, &mut source, &mut out, &mut err), status);
-        assert_eq!(rt; err.held(), fault_text);
     }
     Ok(())
 }

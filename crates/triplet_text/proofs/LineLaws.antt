@@ -64,7 +64,7 @@ no_fault lines list (Unreadable k) r f = absurd (none_bad IsUnreadable lines lis
 no_fault lines list (NotUnimodular k) r f = absurd (none_bad IsNotUnimodular lines list k not_unimodular_are_bad r f)
 no_fault lines list NoMemory r f = refl
 
-both_kinds : (lines : List (List ℕ)) (j k : ℕ) → IsFirstBad IsUnreadable lines j → IsFirstBad IsNotUnimodular lines k → ⊥
+pub both_kinds : (lines : List (List ℕ)) (j k : ℕ) → IsFirstBad IsUnreadable lines j → IsFirstBad IsNotUnimodular lines k → ⊥
 both_kinds lines j k f g =
     let e = (same_place IsUnreadable IsNotUnimodular lines j k unreadable_are_bad not_unimodular_are_bad f g).1 in
     unreadable_or_not_unimodular g.line (subst IsUnreadable e f.bad) g.bad

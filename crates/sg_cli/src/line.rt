@@ -2,29 +2,29 @@ ghost use Rattle.std.specs.Prelude.{◌≡◌, ◌+◌, ◌≤◌, ◌++◌, [],
 
 use std::marker::Model;
 
-/// A text of at most 64 bytes in place, so that telling a fault takes no memory.
+/// A line of at most 192 bytes in place, so that printing it and telling a fault take no memory.
 #[derive(Drop)]
-pub struct FaultText {
-    bytes: [u8; 64],
+pub struct Line {
+    bytes: [u8; 192],
     len: usize,
 }
 
-impl Model for FaultText {
+impl Model for Line {
     ghost use Rattle.std.specs.Prelude.{◌≤◌, ℕ, List, take};
 
     ghost Value = { List ℕ };
 
-    ghost view = { λ text. take text.len text.bytes };
+    ghost view = { λ line. take line.len line.bytes };
 
-    ghost invariant = { λ text. text.len ≤ 64 };
+    ghost invariant = { λ line. line.len ≤ 192 };
 }
 
-impl FaultText {
-    pub fn new() -> FaultText
+impl Line {
+    pub fn new() -> Line
         ensures { result ≡ [] }
     {
-        FaultText {
-            bytes: [0; 64],
+        Line {
+            bytes: [0; 192],
             len: 0,
         }
     }
@@ -37,7 +37,7 @@ impl FaultText {
 
     /// Adds the piece at the end.
     pub fn push(&mut self, piece: &[u8])
-        requires { length self.old + length piece.now ≤ 64 }
+        requires { length self.old + length piece.now ≤ 192 }
         ensures { self.new ≡ self.old ++ piece.now }
     {
         let end = self.len + piece.len();
