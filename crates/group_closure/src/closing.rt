@@ -5,11 +5,14 @@ ghost use Rattle.group_closure.specs.Words.{IsUnclosed};
 ghost use Rattle.group_closure.specs.Steps.{Adds, AreGenerators, IsPartial, HasProducts, Extends, IsGenerated};
 
 use crate::MAX_OPERATORS;
-use crate::group::CloseFault;
 use exact_ops::{Op, OpList, compose};
 
+/// More than `MAX_OPERATORS` operators, or one with an entry outside -2..=2.
+#[derive(Clone, Copy, Drop)]
+pub struct Unclosed;
+
 /// Fills `generators` with the listed operators, each once.
-pub fn collect(list: &OpList, generators: &mut Vec<Op>) -> Result<(), CloseFault>
+pub fn collect(list: &OpList, generators: &mut Vec<Op>) -> Result<(), Unclosed>
     requires empty { generators.old.items ≡ [] }
     requires room { MAX_OPERATORS < vec_capacity generators.old }
     ensures ok { OnOk result (AreGenerators list.now generators.new.items) }
@@ -17,7 +20,7 @@ pub fn collect(list: &OpList, generators: &mut Vec<Op>) -> Result<(), CloseFault
 {
     for k in 0..list.len() {
         let Ok(op) = Op::of(&list.get(k)) else {
-            return Err(CloseFault::Unclosed);
+            return Err(Unclosed);
         };
         add(generators, op)?;
     }
@@ -26,7 +29,7 @@ pub fn collect(list: &OpList, generators: &mut Vec<Op>) -> Result<(), CloseFault
 
 /// Fills `members` with all products of the generators, the identity first. It suffices to multiply each member by each
 /// generator: in a finite group an inverse is a product too.
-pub fn generate(generators: &[Op], members: &mut Vec<Op>) -> Result<(), CloseFault>
+pub fn generate(generators: &[Op], members: &mut Vec<Op>) -> Result<(), Unclosed>
     requires narrow { All IsNarrow generators.now }
     requires empty { members.old.items ≡ [] }
     requires room { MAX_OPERATORS < vec_capacity members.old }
@@ -44,7 +47,7 @@ pub fn generate(generators: &[Op], members: &mut Vec<Op>) -> Result<(), CloseFau
 }
 
 /// Adds the products of a member by the generators.
-fn multiply(generators: &[Op], member: &Op, members: &mut Vec<Op>) -> Result<(), CloseFault>
+fn multiply(generators: &[Op], member: &Op, members: &mut Vec<Op>) -> Result<(), Unclosed>
     requires narrow { All IsNarrow generators.now }
     requires partial { IsPartial generators.now members.old.items }
     requires within { vec_len members.old ≤ MAX_OPERATORS }
@@ -59,7 +62,7 @@ fn multiply(generators: &[Op], member: &Op, members: &mut Vec<Op>) -> Result<(),
 {
     for generator in generators {
         let Some(op) = compose(member, generator) else {
-            return Err(CloseFault::Unclosed);
+            return Err(Unclosed);
         };
         add(members, op)?;
     }
@@ -67,7 +70,7 @@ fn multiply(generators: &[Op], member: &Op, members: &mut Vec<Op>) -> Result<(),
 }
 
 /// Adds an operator where the list lacks it.
-fn add(ops: &mut Vec<Op>, op: Op) -> Result<(), CloseFault>
+fn add(ops: &mut Vec<Op>, op: Op) -> Result<(), Unclosed>
     requires { vec_len ops.old < vec_capacity ops.old }
     ensures adds { Adds ops.old.items op ops.new.items }
     ensures capacity { vec_capacity ops.new ≡ vec_capacity ops.old }
@@ -78,7 +81,7 @@ fn add(ops: &mut Vec<Op>, op: Op) -> Result<(), CloseFault>
         ops.push_reserved(op);
     }
     if ops.len() > MAX_OPERATORS {
-        return Err(CloseFault::Unclosed);
+        return Err(Unclosed);
     }
     Ok(())
 }

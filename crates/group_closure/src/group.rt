@@ -49,8 +49,12 @@ impl Group {
         let Ok(mut members) = Vec::with_capacity(alloc, MAX_OPERATORS + 1) else {
             return Err(CloseFault::NoMemory);
         };
-        collect(list, &mut generators)?;
-        generate(&generators, &mut members)?;
+        let Ok(()) = collect(list, &mut generators) else {
+            return Err(CloseFault::Unclosed);
+        };
+        let Ok(()) = generate(&generators, &mut members) else {
+            return Err(CloseFault::Unclosed);
+        };
         sort_after_first(&mut members);
         Ok(Group { members })
     }
