@@ -1,4 +1,5 @@
--- Words in listed operators and their inverses, and the operators that they are the values of.
+-- The group that listed operators generate: the values of all words in them and their inverses, modulo the cell.
+-- International Tables A: the symmetry operations of a space group modulo its lattice translations.
 use Rattle.std.specs.Prelude.{◌≡◌, ◌≢◌, ◌<◌, ◌≤◌, ◌⊎◌, List, length}
 use Rattle.std.specs.List.{All, AllPairs, Contains, fold}
 use Rattle.lattice_algebra.specs.Operator.{Operator, IsOperator, HasEntriesWithin, product, identity_operator}
@@ -17,7 +18,7 @@ value word = fold (product UNIT) identity_operator word
 abbrev pub Span : List Operator → Operator → Type 0
 Span list f = (word : List Operator) × All (IsLetter list) word × (value word ≡ f)
 
--- some list of at most 192 operators holds the value of every word, and every value has entries within 2
+-- a list closes where some list of at most 192 operators holds the value of every word, and every value has entries within 2
 abbrev pub Closes : List Operator → Type 0
 Closes list = (xs : List Operator) × (length xs ≤ MAX_OPERATORS) × ((f : Operator) → Span list f → Contains xs f) × ((f : Operator) → Span list f → HasEntriesWithin 2 f.w)
 

@@ -69,7 +69,7 @@ fn multiply(generators: &[Op], member: &Op, members: &mut Vec<Op>) -> Result<(),
     Ok(())
 }
 
-/// Adds an operator where the list lacks it.
+/// Adds an operator where the list lacks it. Unclosed where there are then too many.
 fn add(ops: &mut Vec<Op>, op: Op) -> Result<(), Unclosed>
     requires { vec_len ops.old < vec_capacity ops.old }
     ensures adds { Adds ops.old.items op ops.new.items }

@@ -1,5 +1,5 @@
 //! The group that a list of symmetry operators generates, modulo the translations of the lattice: all products of listed
-//! operators and their inverses, in one fixed order.
+//! operators and their inverses, in one fixed order. A list that generates too many, or one too wide, is refused.
 #![tactic(auto)]
 
 mod closing;
@@ -12,6 +12,6 @@ pub use laws::{
     one_group_list, same_members_same_list, short_narrow_list_closes, unclosed_never_closes,
 };
 
-/// The most operators that a group can have: a space group has at most 48 rotation parts, and a conventional cell at most
-/// four translations.
+/// The most members that a group has: at most 48 rotation parts, and at most four centring translations in a
+/// conventional cell.
 pub const MAX_OPERATORS: usize = 192;
