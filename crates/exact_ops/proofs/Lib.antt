@@ -1,3 +1,2 @@
 pub mod Narrow
 pub mod Listed
-pub mod Unimodular

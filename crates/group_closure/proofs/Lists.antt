@@ -17,7 +17,8 @@ use Rattle.group_closure.specs.Words.{IsLetter, Span, Closes, AreDistinct, IsUnc
 use Rattle.group_closure.specs.GroupList.{IsGroupList, IsGroup}
 use Rattle.group_closure.specs.Steps.{AreGenerators, IsGenerated}
 use Rattle.group_closure.proofs.Bundle.{cell_operators}
-use Rattle.group_closure.proofs.Ordered.{operator_cmp_total, operator_ties, one_order_after, strict_from_sorted}
+use Rattle.finite_groups.proofs.Ordered.{one_order_after, strict_from_sorted}
+use Rattle.group_closure.proofs.Ordered.{operator_cmp_total, operator_ties}
 
 -- ---- Span
 

@@ -20,7 +20,8 @@ use triplet_text::read_lines;
 
 /// Words and bytes have one answer at most.
 pub fn answer_is_unique()
-    ensures { (words : List (List ℕ)) (bytes : List ℕ) (a b : Answer) → IsAnswer words bytes a → IsAnswer words bytes b → a ≡ b }
+    ensures { (words : List (List ℕ)) (bytes : List ℕ) (a b : Answer)
+        → IsAnswer words bytes a → IsAnswer words bytes b → a ≡ b }
 {}
 
 /// Prints the answer to the command, where there is one. All memory is taken before the first byte is written.
@@ -42,6 +43,7 @@ fn print_answer<K: Sink>(
     Ok(())
 }
 
+/// Reads the words and the source, and prints the answer.
 fn serve<S: Source, K: Sink>(
     alloc: Global,
     words: &[String],
@@ -49,7 +51,8 @@ fn serve<S: Source, K: Sink>(
     out: &mut K,
 ) -> Result<(), Fault>
     ensures words { IsErrOf result Fault.Words ↔ IsNoCommand (texts words.now) }
-    ensures served { Serves (record { held = K.held; faults = K.faults; wants = K.wants }) (record { left = S.left; faults = S.faults })
+    ensures served { Serves (record { held = K.held; faults = K.faults; wants = K.wants })
+        (record { left = S.left; faults = S.faults })
         (texts words.now) source.old source.new out.old out.new result }
 {
     let Some(command) = read_words(words) else {
@@ -61,7 +64,8 @@ fn serve<S: Source, K: Sink>(
 
 /// Writes the text of the fault. Where the write is refused, nothing more comes of it.
 pub fn tell<E: Sink>(err: &mut E, fault: Fault)
-    ensures { IsTold (record { held = E.held; faults = E.faults; wants = E.wants }) err.old err.new (text_of fault) }
+    ensures { IsTold (record { held = E.held; faults = E.faults; wants = E.wants })
+        err.old err.new (text_of fault) }
 {
     let _ = put_all(err, fault.text().bytes());
 }
@@ -106,7 +110,8 @@ pub fn run<S: Source, K: Sink, E: Sink>(
     ensures fault_text_none { result ≡ 0 → err.new ≡ err.old }
 
     // Where nothing fails, a text is printed, or memory is wanted.
-    ensures complete { (Rose (S.faults source.old) (S.faults source.new) → ⊥) → (Rose (K.faults out.old) (K.faults out.new) → ⊥)
+    ensures complete { (Rose (S.faults source.old) (S.faults source.new) → ⊥)
+        → (Rose (K.faults out.old) (K.faults out.new) → ⊥)
         → Completes (texts words.now) (S.left source.old) (K.held out.old) (K.held out.new) result }
 {
     match serve(alloc, words, source, out) {

@@ -20,7 +20,7 @@ impl Model for Line {
 }
 
 impl Line {
-    pub fn new() -> Line
+    pub(crate) fn new() -> Line
         ensures { result ≡ [] }
     {
         Line {
@@ -29,6 +29,7 @@ impl Line {
         }
     }
 
+    /// The line, with its line feed.
     pub fn bytes(&self) -> &[u8]
         ensures { result.now ≡ self.now }
     {
@@ -36,7 +37,7 @@ impl Line {
     }
 
     /// Adds the piece at the end.
-    pub fn push(&mut self, piece: &[u8])
+    pub(crate) fn push(&mut self, piece: &[u8])
         requires { length self.old + length piece.now ≤ 192 }
         ensures { self.new ≡ self.old ++ piece.now }
     {

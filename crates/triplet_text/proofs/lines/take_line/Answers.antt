@@ -1,5 +1,4 @@
 use Rattle.std.proofs.Common.{inr, sym, ◌∙◌}
-use Rattle.exact_ops.proofs.Unimodular.{unimodular_of}
 use Rattle.exact_ops.specs.Numbers.{numbers}
 use Rattle.triplet_text.proofs.lines.take_line.Goals as goal
 
@@ -9,5 +8,5 @@ returns-in-Ok-clause-good c =
       kept = sym c.is_skipped_line.ensures ∙ c.if-is_skipped_line.false;
       operator = numbers c.in-Some.raw;
       triplet = sym c.in-Some.ensures;
-      unimodular = unimodular_of _ (λ other. let e = c.in-Ok.ensures.not_unimodular.1 other in cc);
+      unimodular = c.in-Ok.ensures.unimodular;
     })
