@@ -3,7 +3,7 @@ mod Bounds
 mod Totals
 mod Cuts
 mod Rows
-mod LowestTerms
+pub mod LowestTerms
 mod Printed
 mod LineSteps
 pub mod LineLaws

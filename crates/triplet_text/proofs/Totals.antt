@@ -1,57 +1,34 @@
 -- A total of n terms stays small.
-use Rattle.std.proofs.Common.{◌≡◌, ℕ, ◌+◌, ◌*◌, ◌^◌, ◌≤◌, Bool, true, false, cond, eqb, List, [], ◌∷◌, length, get_or, take, drop, ◌-◌, Some, refl, arith}
+use Rattle.std.proofs.Common.{◌≡◌, ℕ, ◌+◌, ◌≤◌, Bool, true, false, cond, eqb, List, [], ◌∷◌, length, get_or, take, drop, ◌-◌, Some, refl, arith}
 use Rattle.std.proofs.lemmas.Bool.{ne_eqb}
 use Rattle.std.proofs.lemmas.List.{take_rest}
+use Rattle.triplet_text.specs.Bytes.{minus_sign}
 use Rattle.triplet_text.specs.Pieces.{trim}
 use Rattle.triplet_text.specs.Terms.{term_of}
 use Rattle.triplet_text.specs.Sums.{before_sign, behind_signs, total, StartsWithSign}
 use Rattle.std.specs.Prelude.{ℤ, neg_ℤ, ◌+ℤ◌}
 use Rattle.std.proofs.lemmas.Int.{ints}
 use Rattle.triplet_text.specs.declared.component.Component.{Component}
-use Rattle.triplet_text.specs.Components.{Within, IsSumOf, plus, behind}
-
-within_plus : (b n : ℕ) (x y : ℤ) → Within (b * n) x → Within (b * 1) y → Within (b * (n + 1)) (x +ℤ y)
-within_plus b n x y p q = (omega (arith, ints), omega (arith, ints))
-
-within_minus : (b n : ℕ) (x y : ℤ) → Within (b * n) x → Within (b * 1) y → Within (b * (n + 1)) (x +ℤ neg_ℤ y)
-within_minus b n x y p q = (omega (arith, ints), omega (arith, ints))
+use Rattle.triplet_text.specs.Components.{IsSumOf, plus, behind}
 
 behind_cases : (n : ℕ) (v t : Component) (b : Bool) → IsSumOf n v → IsSumOf 1 t → IsSumOf (n + 1) (plus v (cond b (record { x = neg_ℤ t.x; y = neg_ℤ t.y; z = neg_ℤ t.z; parts = neg_ℤ t.parts }) t))
-behind_cases n v t true p q = record {
-  x = within_minus 9 n v.x t.x p.x q.x;
-  y = within_minus 9 n v.y t.y p.y q.y;
-  z = within_minus 9 n v.z t.z p.z q.z;
-  parts = within_minus (10 ^ 14) n v.parts t.parts p.parts q.parts;
-}
-behind_cases n v t false p q = record {
-  x = within_plus 9 n v.x t.x p.x q.x;
-  y = within_plus 9 n v.y t.y p.y q.y;
-  z = within_plus 9 n v.z t.z p.z q.z;
-  parts = within_plus (10 ^ 14) n v.parts t.parts p.parts q.parts;
-}
+behind_cases n v t true p q = omega (arith, ints)
+behind_cases n v t false p q = omega (arith, ints)
 
 pub IsSumOf-more : (n sign : ℕ) (v t : Component) → IsSumOf n v → IsSumOf 1 t → IsSumOf (n + 1) (plus v (behind sign t))
-IsSumOf-more n sign v t p q = behind_cases n v t (eqb sign 45) p q
-
-within_wider : (b n m : ℕ) (x : ℤ) → n ≤ m → Within (b * n) x → Within (b * m) x
-within_wider b n m x le p = let k : b * n ≤ b * m = grind arith in (omega (arith, ints), omega (arith, ints))
+IsSumOf-more n sign v t p q = behind_cases n v t (eqb sign minus_sign) p q
 
 pub IsSumOf-wider : (n m : ℕ) (v : Component) → n ≤ m → IsSumOf n v → IsSumOf m v
-IsSumOf-wider n m v le p = record {
-  x = within_wider 9 n m v.x le p.x;
-  y = within_wider 9 n m v.y le p.y;
-  z = within_wider 9 n m v.z le p.z;
-  parts = within_wider (10 ^ 14) n m v.parts le p.parts;
-}
+IsSumOf-wider n m v le p = omega (arith, ints)
 
 -- the sum, by its numbers
-pub plus_is : (sign : ℕ) (v t : Component) (x y z parts : ℤ) → sign ≡ 45 → x ≡ v.x +ℤ neg_ℤ t.x → y ≡ v.y +ℤ neg_ℤ t.y → z ≡ v.z +ℤ neg_ℤ t.z → parts ≡ v.parts +ℤ neg_ℤ t.parts
+pub plus_is : (sign : ℕ) (v t : Component) (x y z parts : ℤ) → sign ≡ minus_sign → x ≡ v.x +ℤ neg_ℤ t.x → y ≡ v.y +ℤ neg_ℤ t.y → z ≡ v.z +ℤ neg_ℤ t.z → parts ≡ v.parts +ℤ neg_ℤ t.parts
     → plus v (behind sign t) ≡ record { x = x; y = y; z = z; parts = parts }
 plus_is sign v t x y z parts minus ex ey ez et = rw (minus, ex, ey, ez, et) refl
 
-pub plus_is_plain : (sign : ℕ) (v t : Component) (x y z parts : ℤ) → (sign ≡ 45 → ⊥) → x ≡ v.x +ℤ t.x → y ≡ v.y +ℤ t.y → z ≡ v.z +ℤ t.z → parts ≡ v.parts +ℤ t.parts
+pub plus_is_plain : (sign : ℕ) (v t : Component) (x y z parts : ℤ) → (sign ≡ minus_sign → ⊥) → x ≡ v.x +ℤ t.x → y ≡ v.y +ℤ t.y → z ≡ v.z +ℤ t.z → parts ≡ v.parts +ℤ t.parts
     → plus v (behind sign t) ≡ record { x = x; y = y; z = z; parts = parts }
-plus_is_plain sign v t x y z parts other ex ey ez et = rw (ne_eqb sign 45 other, ex, ey, ez, et) refl
+plus_is_plain sign v t x y z parts other ex ey ez et = rw (ne_eqb sign minus_sign other, ex, ey, ez, et) refl
 
 -- one more term behind its sign
 pub total_more : (v t : Component) (rest front more : List ℕ) → 1 ≤ length rest → StartsWithSign rest → front ≡ before_sign (take (length rest - 1) (drop 1 rest)) → behind_signs more ≡ behind_signs (take (length rest - 1) (drop 1 rest)) → Some t ≡ term_of (trim front)

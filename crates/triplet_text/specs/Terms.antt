@@ -5,7 +5,7 @@ use Rattle.exact_ops.specs.declared.TheConstants.{UNIT}
 use Rattle.triplet_text.specs.declared.component.Component.{Component}
 use Rattle.triplet_text.specs.Bytes.{is_digit, zero_digit, star, stroke, point}
 use Rattle.triplet_text.specs.Pieces.{cut, trim_start, trim_end}
-use Rattle.triplet_text.specs.Numbers.{whole_of, denominator_of, decimal_of}
+use Rattle.triplet_text.specs.Digits.{whole_of, denominator_of, decimal_of}
 use Rattle.triplet_text.specs.Components.{times_letter, of_parts}
 
 -- a digit before a star, and a letter behind it

@@ -1,5 +1,5 @@
 /// What a term or a sum says: how often each coordinate occurs, and the parts of a cell.
-#[derive(Clone, Copy, Debug, PartialEq, Eq)]
+#[derive(Clone, Copy)]
 pub struct Component {
     pub x: i32,
     pub y: i32,

@@ -1,6 +1,6 @@
 ghost use Rattle.std.specs.Prelude.{◌≡◌, ◌+◌, ◌*◌, ◌^◌, ◌<◌, ◌≤◌, length, IfSome};
 ghost use Rattle.triplet_text.specs.Bytes.{is_digit};
-ghost use Rattle.triplet_text.specs.Numbers.{with_digits, whole_of, has_leading_zero, denominator_of, decimal_of};
+ghost use Rattle.triplet_text.specs.Digits.{with_digits, whole_of, has_leading_zero, denominator_of, decimal_of};
 
 use exact_ops::UNIT;
 

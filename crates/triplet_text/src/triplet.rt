@@ -10,7 +10,9 @@ use crate::pieces::{cut_at, without_blanks, without_quotes};
 use crate::sum::read_sum;
 use exact_ops::{Raw, UNIT};
 
-/// What the line says: None exactly where it is not in the triplet grammar, which takes at most 255 bytes.
+/// What the line says, such as `-x, y+1/2, 2*z`: None exactly where it is no triplet. A triplet has at most 255 bytes:
+/// three sums with commas between them, in two like quotes or none. A term is a letter, a digit and a letter with a star
+/// or none between them, a whole number, a fraction or a decimal; the last two are a whole number of parts of a cell.
 pub fn read_triplet(line: &[u8]) -> Option<Raw>
     ensures { option_map numbers result ≡ triplet_of line.now }
 {
