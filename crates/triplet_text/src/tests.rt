@@ -2,7 +2,8 @@ use super::*;
 use exact_ops::{Op, Raw, UNIT};
 use std::test::Fail;
 
-const PART: i32 = UNIT as i32 / 12;
+// The tests count in twelfths of a cell.
+const TWELFTH: i32 = UNIT as i32 / 12;
 
 const SAME: [i32; 9] = [1, 0, 0, 0, 1, 0, 0, 0, 1];
 
@@ -23,7 +24,7 @@ fn reads_triplets(rt: HostRuntime) {
         ("x-y+x+y-x,1.+y+0.25,z-1/3-1/12", SAME, [0, 3, 7]),
     ] {
         let [a, b, c] = t;
-        let want = Raw::of(w, [a * PART, b * PART, c * PART]);
+        let want = Raw::of(w, [a * TWELFTH, b * TWELFTH, c * TWELFTH]);
         assert_eq!(rt; read_triplet(line.as_bytes()), want, "{line}");
     }
 }

@@ -11,8 +11,9 @@ use crate::sum::read_sum;
 use exact_ops::{Raw, UNIT};
 
 /// What the line says, such as `-x, y+1/2, 2*z`: None exactly where it is no triplet. A triplet has at most 255 bytes:
-/// three sums with commas between them, in two like quotes or none. A term is a letter, a digit and a letter with a star
-/// or none between them, a whole number, a fraction or a decimal; the last two are a whole number of parts of a cell.
+/// three sums with commas between them, in two like quotes or none. A term of a sum is a letter, a digit and a letter
+/// with a star or none between them, a whole number of cells, a fraction whose denominator divides `UNIT`, or a decimal
+/// that is a whole number of parts of a cell.
 pub fn read_triplet(line: &[u8]) -> Option<Raw>
     ensures { option_map numbers result ≡ triplet_of line.now }
 {
