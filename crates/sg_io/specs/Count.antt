@@ -1,5 +1,5 @@
 -- A count that never falls.
-use Rattle.std.specs.Prelude.{◌≡◌, ℕ, ◌+◌, ◌-◌, ◌^◌, ◌≤◌, min, Result, MatchResult}
+use Rattle.std.specs.Prelude.{◌≡◌, ◌≢◌, ℕ, ◌+◌, ◌-◌, ◌^◌, ◌≤◌, min, Result, Err, IsErrOf, MatchResult}
 
 -- one more, or the last value of a u64, at which a count stands still
 abbrev pub raised : ℕ → ℕ
@@ -12,3 +12,7 @@ Rose before now = raised before ≤ now
 -- an error raises the count, and nothing else does
 abbrev pub CountsErrors : {T E : Type 0} → ℕ → ℕ → Result T E → Type 0
 CountsErrors before now result = MatchResult result (λ _. now ≡ before) (λ _. now ≡ raised before)
+
+-- this one error raises the count, and nothing else does
+abbrev pub CountsError : {T E : Type 0} → ℕ → ℕ → Result T E → E → Type 0
+CountsError before now result error = (IsErrOf result error → now ≡ raised before) × (result ≢ Err error → now ≡ before)

@@ -11,3 +11,26 @@ pub record MemoryOutput : Type 0 where
   pub held : List ℕ
   pub piece : ℕ
   pub wants : ℕ
+
+-- the calls of a stream: the numbers, from 0, of those that fail, how many were made, and how many of these failed
+pub record NumberedCalls : Type 0 where
+  pub fails : List ℕ
+  pub made : ℕ
+  pub faults : ℕ
+
+-- a MemoryInput, whose reads are such calls
+pub record FailingInput : Type 0 where
+  pub left : List ℕ
+  pub piece : ℕ
+  pub fails : List ℕ
+  pub made : ℕ
+  pub faults : ℕ
+
+-- a MemoryOutput, whose writes are such calls
+pub record FailingOutput : Type 0 where
+  pub held : List ℕ
+  pub piece : ℕ
+  pub wants : ℕ
+  pub fails : List ℕ
+  pub made : ℕ
+  pub faults : ℕ

@@ -24,6 +24,12 @@ impl Count {
         Count { value: 0 }
     }
 
+    pub fn get(&self) -> u64
+        ensures { result ≡ self.now }
+    {
+        self.value
+    }
+
     pub fn raise(&mut self)
         ensures raised { self.new ≡ raised self.old }
         ensures later { self.old ≤ self.new }

@@ -105,3 +105,67 @@ fn memory_is_read_and_written_whole(rt: HostRuntime) -> Result<(), Fail> {
     assert_eq!(rt; sink.held(), b"x,y,z\n".as_slice());
     Ok(())
 }
+
+#[test]
+fn a_source_in_memory_fails_at_the_listed_call(rt: HostRuntime) -> Result<(), Fail> {
+    let alloc = rt.alloc();
+    // The call that fails, and what the first and the second read of all give.
+    for (call, first, second) in [
+        (0, None, Some("x,y,z")),
+        (1, None, Some("y,z")),
+        (2, None, Some("z")),
+        (3, None, Some("")),
+        (4, Some("x,y,z"), None),
+        (5, Some("x,y,z"), Some("")),
+    ] {
+        let mut source = MemSource::new(alloc, b"x,y,z", 2, &[call])
+            .ok()
+            .ok_or("memory")?;
+        for wanted in [first, second] {
+            match read_all(alloc, &mut source, 8) {
+                Ok(all) => {
+                    assert_eq!(rt;
+                        Some(all.as_slice()),
+                        wanted.map(|text| text.as_bytes()),
+                        "call {call}"
+                    );
+                }
+                Err(stop) => {
+                    assert_eq!(rt; stop, ReadStop::Failed, "call {call}");
+                    assert_eq!(rt; wanted, None, "call {call}");
+                }
+            }
+        }
+    }
+    Ok(())
+}
+
+#[test]
+fn a_sink_in_memory_fails_at_the_listed_call(rt: HostRuntime) -> Result<(), Fail> {
+    let alloc = rt.alloc();
+    // The call that fails, and what is held after the operator and after the line feed.
+    for (call, first, second) in [
+        (0, "", "\n"),
+        (1, "x,", "x,\n"),
+        (2, "x,y,", "x,y,\n"),
+        (3, "x,y,z", "x,y,z"),
+        (4, "x,y,z", "x,y,z\n"),
+    ] {
+        let mut sink = MemSink::new(alloc, 2, &[call]).ok().ok_or("memory")?;
+        let put = put_all(&mut sink, b"x,y,z");
+        assert_eq!(rt;
+            put.err(),
+            (call < 3).then_some(SinkStop::Failed),
+            "call {call}"
+        );
+        assert_eq!(rt; sink.held(), first.as_bytes(), "call {call}");
+        let put = put_all(&mut sink, b"\n");
+        assert_eq!(rt;
+            put.err(),
+            (call == 3).then_some(SinkStop::Failed),
+            "call {call}"
+        );
+        assert_eq!(rt; sink.held(), second.as_bytes(), "call {call}");
+    }
+    Ok(())
+}

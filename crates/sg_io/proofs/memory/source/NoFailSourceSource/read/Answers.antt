@@ -1,7 +1,7 @@
 use Rattle.std.proofs.Common.{ap}
 use Rattle.sg_io.specs.Memory.{MemoryInput}
 use Rattle.sg_io.proofs.Told.{gives}
-use Rattle.sg_io.proofs.memory.NoFailSourceSource.read.Goals as goal
+use Rattle.sg_io.proofs.memory.source.NoFailSourceSource.read.Goals as goal
 
 pub returns-clause-bytes : goal.returns-clause-bytes
 returns-clause-bytes c =
