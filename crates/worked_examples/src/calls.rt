@@ -15,11 +15,16 @@ pub struct Answered {
     pub left: Vec<u8>,
 }
 
-pub fn ask(alloc: Global, texts: &[&str], input: &[u8]) -> Result<Answered, Fail> {
+pub fn words_of(alloc: Global, texts: &[&str]) -> Result<Vec<String>, Fail> {
     let mut words = Vec::new(alloc);
     for text in texts {
         words.push(String::from_str(alloc, text)?)?;
     }
+    Ok(words)
+}
+
+pub fn ask(alloc: Global, texts: &[&str], input: &[u8]) -> Result<Answered, Fail> {
+    let words = words_of(alloc, texts)?;
     let mut source = NoFailSource::new(alloc, input, 1000).ok().ok_or("memory")?;
     let mut out = NoFailSink::new(alloc, 7);
     let mut err = NoFailSink::new(alloc, 100);

@@ -6,4 +6,6 @@ mod calls;
 #[cfg(test)]
 mod ops;
 #[cfg(test)]
+mod streams;
+#[cfg(test)]
 mod words;
