@@ -1,0 +1,30 @@
+#!/usr/bin/env bash
+# How long the built program takes, as whole processes: run by hand, never part of the gate.
+#
+#     bash bench/ops.sh [RUNS]
+#
+# Each line is a mean over RUNS runs, in milliseconds. The first is what a process costs that does nothing. To compare
+# another program, run it in the same way, on the same machine, in the same minute.
+set -eu
+cd "$(dirname "${BASH_SOURCE[0]}")/.."
+runs=${1:-200}
+sg=$PWD/crates/sg/out/sg
+bin/sg ops </dev/null >/dev/null
+most=$(mktemp)
+trap 'rm -f "$most"' EXIT
+yes x,y,z | head -n 174762 >"$most"
+
+# mean NAME RUNS INPUT COMMAND..
+mean() {
+    local name=$1 times=$2 input=$3 began ended
+    shift 3
+    began=$(date +%s%N)
+    for _ in $(seq "$times"); do "$@" <"$input" >/dev/null; done
+    ended=$(date +%s%N)
+    printf '%-42s %8.2f\n' "$name" "$(((ended - began) / times / 10000))e-2"
+}
+
+mean 'a process that does nothing' "$runs" /dev/null /bin/true
+mean 'ops, P2_1/c (4 operators)' "$runs" examples/p21c.txt "$sg" ops
+mean 'ops, Fm-3m (192 operators)' "$runs" examples/fm-3m.txt "$sg" ops
+mean 'ops, 174,762 equal lines' "$((runs / 10 + 1))" "$most" "$sg" ops
