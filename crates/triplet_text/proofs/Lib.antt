@@ -1,3 +1,11 @@
+mod Texts
+mod ByteKinds
+mod Options
+mod Values
+mod TermTexts
+mod SumTexts
+pub mod GrammarLaw
+mod Written
 mod Trims
 mod Bounds
 mod Totals

@@ -7,6 +7,8 @@ pub mod Digits
 pub mod Components
 pub mod Terms
 pub mod Sums
+pub mod Tokens
+pub mod Grammar
 pub mod Triplets
 pub mod Fractions
 pub mod Printing

@@ -3,6 +3,7 @@
 
 mod component;
 mod fraction;
+mod laws;
 mod lines;
 mod number;
 mod pieces;
@@ -12,6 +13,7 @@ mod term;
 mod text;
 mod triplet;
 
+pub use laws::triplet_is_unique;
 pub use lines::{LineFault, read_lines};
 pub use printing::print_triplet;
 pub use text::Text;
