@@ -1,10 +1,13 @@
 -- What is read of a line is what the grammar says of it.
 use Rattle.std.proofs.Common.{◌≡◌, inl, inr, ◌⊎◌, ◌↔◌, ℕ, ◌+◌, ◌-◌, ◌<◌, ◌≤◌, Bool, true, false, eqb, ltb, leb, ◌&&◌, cond, List, [], ◌∷◌, ◌++◌, length, take, get_or, Option, Some, None, refl, sym, ap, subst, ◌∙◌, arith, append_assoc, length-append}
-use Rattle.std.specs.Prelude.{option_and_then, slice_index}
+use Rattle.std.specs.Prelude.{option_and_then, slice_index, IfSome, IfNone}
+use Rattle.std.specs.Option.{option_map}
 use Rattle.std.proofs.lemmas.Bool.{lt-ltb, le-leb, eq-eqb}
 use Rattle.std.proofs.lemmas.List.{take_at}
 use borrow.Author.Tests.{eqb-true, ltb-true, leb-true}
 use Rattle.exact_ops.specs.Operator.{Operator, modulo}
+use Rattle.exact_ops.specs.Numbers.{numbers}
+use Rattle.exact_ops.specs.declared.raw.Raw.{Raw}
 use Rattle.exact_ops.specs.declared.TheConstants.{UNIT}
 use Rattle.triplet_text.specs.declared.component.Component.{Component}
 use Rattle.triplet_text.specs.Bytes.{is_blank, is_quote, comma}
@@ -12,7 +15,7 @@ use Rattle.triplet_text.specs.Pieces.{trim, trim_end, cut, unquoted}
 use Rattle.triplet_text.specs.Sums.{sum_of}
 use Rattle.triplet_text.specs.Triplets.{operator_by, three_sums, components_of, triplet_of}
 use Rattle.triplet_text.specs.Tokens.{Token, Mark, HasTokens}
-use Rattle.triplet_text.specs.Grammar.{AreThreeSums, IsQuoted, IsWithin, IsTriplet}
+use Rattle.triplet_text.specs.Grammar.{IsSum, AreThreeSums, IsQuoted, IsWithin, IsTriplet}
 use Rattle.triplet_text.proofs.Options.{both, then_some, if_some}
 use Rattle.triplet_text.proofs.ByteKinds.{is_no_comma, quote_solid}
 use Rattle.triplet_text.proofs.Texts.{Lacks, cut_first, cut_nowhere, first_or_none, end_behind, solid_kept, trim_is, IsTrimmed, is_trimmed}
@@ -34,13 +37,29 @@ at_comma text p e =
 comma_before : (text : List ℕ) (tokens : List Token) → HasTokens text tokens → HasTokens (comma ∷ text) (Mark comma ∷ tokens)
 comma_before text tokens h = (record { blanks = []; rest = text; cut = refl; blank = tt; is_token = refl; follow = tt }, h)
 
+of_three : (one two three : List Token) (a b c : Component) (f : Operator) → IsSum one a → IsSum two b → IsSum three c → operator_by a b c ≡ f → AreThreeSums (one ++ Mark comma ∷ (two ++ Mark comma ∷ three)) f
+unfolding modulo
+of_three one two three a b c f p q r same = record {
+  first = one;
+  second = two;
+  third = three;
+  a = a;
+  b = b;
+  c = c;
+  cut = refl;
+  first_is = p;
+  second_is = q;
+  third_is = r;
+  rows = ap (λ (g : Operator). g.w) (sym same);
+  translation = ap (λ (g : Operator). g.t) (sym same);
+}
+
 record IsThreeText (text : List ℕ) (f : Operator) : Type 0 where
   tokens : List Token
   has_tokens : HasTokens text tokens
   sums : AreThreeSums tokens f
 
 sums_from : (text : List ℕ) (f : Operator) → components_of text ≡ Some f → IsThreeText text f
-unfolding modulo
 sums_from text f e =
     let p = then_some (cut (λ b. eqb b comma) text) (λ p. option_and_then (λ q. three_sums p.0 q.0 q.1) (cut (λ b. eqb b comma) p.1)) f e in
     let q = then_some (cut (λ b. eqb b comma) p.0.1) (λ q. three_sums p.0.0 q.0 q.1) f p.2 in
@@ -54,18 +73,10 @@ sums_from text f e =
     let all = join one.tokens (Mark comma ∷ (two.tokens ++ Mark comma ∷ three.tokens)) p.0.0 (comma ∷ (q.0.0 ++ comma ∷ q.0.1)) tt one.has_tokens (comma_before _ (two.tokens ++ Mark comma ∷ three.tokens) back) in
     let cut : text ≡ p.0.0 ++ comma ∷ (q.0.0 ++ comma ∷ q.0.1) = at_comma text p.0 p.1 ∙ ap (λ (t : List ℕ). p.0.0 ++ comma ∷ t) (at_comma p.0.1 q.0 q.1) in
     let tokens = one.tokens ++ Mark comma ∷ (two.tokens ++ Mark comma ∷ three.tokens) in
-    let same : operator_by a.0 b.0 c.0 ≡ f = cc (c.2) in
     record {
       tokens = tokens;
       has_tokens = subst (λ (t : List ℕ). HasTokens t tokens) (sym cut) all;
-      sums = record {
-        first = one.tokens; second = two.tokens; third = three.tokens;
-        a = a.0; b = b.0; c = c.0;
-        cut = refl;
-        first_is = one.is_sum; second_is = two.is_sum; third_is = three.is_sum;
-        rows = ap (λ (g : Operator). g.w) (sym same);
-        translation = ap (λ (g : Operator). g.t) (sym same);
-      };
+      sums = of_three one.tokens two.tokens three.tokens a.0 b.0 c.0 f one.is_sum two.is_sum three.is_sum cc;
     }
 
 -- the first comma of a text that begins with these tokens
@@ -197,3 +208,19 @@ triplet_from line f e =
 
 pub one_operator : (line : List ℕ) (f g : Operator) → IsTriplet line f → IsTriplet line g → f ≡ g
 one_operator line f g s t = let a = triplet_to line f s in let b = triplet_to line g t in cc
+
+-- ---- what is read of a line
+
+pub read_some : (line : List ℕ) (o : Option Raw) → option_map numbers o ≡ triplet_of line → IfSome o (λ raw. IsTriplet line (numbers raw))
+read_some line None e = tt
+read_some line (Some raw) e = triplet_from line (numbers raw) (sym e)
+
+pub read_none : (line : List ℕ) (o : Option Raw) → option_map numbers o ≡ triplet_of line → IfNone o ((f : Operator) → ¬ IsTriplet line f)
+read_none line None e = λ f t. let k = triplet_to line f t in absurd cc
+read_none line (Some raw) e = tt
+
+pub too_long : (line : List ℕ) → 255 < length line → (f : Operator) → ¬ IsTriplet line f
+too_long line long f t = omega (arith, t.short)
+
+pub short_enough : (line : List ℕ) → length line ≤ 255 → components_of (trim (unquoted (trim line))) ≡ triplet_of line
+short_enough line short = rw (le-leb _ 255 short) refl

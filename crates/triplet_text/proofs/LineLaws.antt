@@ -6,7 +6,9 @@ use Rattle.exact_ops.specs.Matrix.{IsUnimodular}
 use Rattle.exact_ops.specs.Operator.{Operator}
 use Rattle.triplet_text.specs.declared.lines.LineFault.{LineFault}
 use Rattle.triplet_text.specs.declared.lines.LineFault.TheVariants.{Unreadable, NotUnimodular, NoMemory}
-use Rattle.triplet_text.specs.Lines.{IsGood, AreRead, IsFirstBad, IsFaultOf, IsUnreadable, IsNotUnimodular}
+use Rattle.triplet_text.specs.Lines.{IsGood, AreRead, end, skipped, read, IsFirstBad, IsFaultOf, IsUnreadable, IsNotUnimodular}
+use Rattle.triplet_text.proofs.GrammarLaw.{one_operator}
+use Rattle.triplet_text.proofs.LineSteps.{good_lines}
 
 -- ---- a line is of one kind
 
@@ -15,17 +17,15 @@ abbrev pub AreBad : (List ℕ → Type 0) → Type 0
 AreBad Bad = (line : List ℕ) → IsGood line → Bad line → ⊥
 
 pub unreadable_are_bad : AreBad IsUnreadable
-unreadable_are_bad line (inl skipped) u = let k = u.kept in cc
-unreadable_are_bad line (inr r) u = let s = r.triplet in let n = u.no_triplet in cc
+unreadable_are_bad line (inl s) u = let k = u.kept in cc
+unreadable_are_bad line (inr r) u = u.no_triplet r.0 r.1.triplet
 
 pub not_unimodular_are_bad : AreBad IsNotUnimodular
-not_unimodular_are_bad line (inl skipped) n = let k = n.kept in cc
-not_unimodular_are_bad line (inr r) n =
-    let e : r.operator ≡ n.operator = cc (r.triplet, n.triplet) in
-    n.not_unimodular (subst (λ (f : Operator). IsUnimodular f.w) e r.unimodular)
+not_unimodular_are_bad line (inl s) n = let k = n.kept in cc
+not_unimodular_are_bad line (inr r) n = n.not_unimodular (subst (λ (f : Operator). IsUnimodular f.w) (one_operator line r.0 n.operator r.1.triplet n.triplet) r.1.unimodular)
 
 pub unreadable_or_not_unimodular : (line : List ℕ) → IsUnreadable line → IsNotUnimodular line → ⊥
-unreadable_or_not_unimodular line u n = let s = n.triplet in let t = u.no_triplet in cc
+unreadable_or_not_unimodular line u n = u.no_triplet n.operator n.triplet
 
 -- ---- there is one first bad line
 
@@ -45,7 +45,7 @@ where_bad Bad Other (first ∷ xs) (second ∷ ys) after rest a b bad other e g 
 
 -- where every line is good, none is the first bad one
 pub none_bad : (Bad : List ℕ → Type 0) (lines : List (List ℕ)) (list : List Operator) (k : ℕ) → AreBad Bad → AreRead lines list → IsFirstBad Bad lines k → ⊥
-none_bad Bad lines list k bad r f = bad_among Bad f.before f.after f.line bad (subst (AllByRecursion IsGood) f.cut (recursion_from_All IsGood lines r.good)) f.bad
+none_bad Bad lines list k bad r f = bad_among Bad f.before f.after f.line bad (subst (AllByRecursion IsGood) f.cut (good_lines r)) f.bad
 
 -- two first bad lines have one number, and are one line
 pub same_place : (Bad Other : List ℕ → Type 0) (lines : List (List ℕ)) (j k : ℕ) → AreBad Bad → AreBad Other → (f : IsFirstBad Bad lines j) → (g : IsFirstBad Other lines k) → (j ≡ k) × (f.line ≡ g.line)
@@ -56,7 +56,14 @@ same_place Bad Other lines j k bad other f g =
 -- ---- so the answer is one
 
 pub same_list : (lines : List (List ℕ)) (a b : List Operator) → AreRead lines a → AreRead lines b → a ≡ b
-same_list lines a b p q = p.operators ∙ sym q.operators
+same_list [] a b end end = refl
+same_list (line ∷ lines) a b (skipped s p) (skipped t q) = same_list lines a b p q
+same_list (line ∷ lines) a b (skipped s p) (read r q) = let k = r.kept in absurd cc
+same_list (line ∷ lines) a b (read r p) (skipped s q) = let k = r.kept in absurd cc
+same_list (line ∷ lines) a b (read {f = f} {list = list} r p) (read {f = g} {list = other} s q) =
+    let head = one_operator line f g r.triplet s.triplet in
+    let tail = same_list lines list other p q in
+    λ i. head i ∷ tail i
 
 -- where all can be read, memory alone can be wanting
 pub no_fault : (lines : List (List ℕ)) (list : List Operator) (fault : LineFault) → AreRead lines list → IsFaultOf lines fault → fault ≡ NoMemory

@@ -1,12 +1,12 @@
 -- The lines of an input: what they say, and which of them is the first bad one. Lines are counted from 1.
-use Rattle.std.specs.Prelude.{◌≡◌, ◌==◌, ◌⊎◌, if◌then◌else◌, ℕ, ◌+◌, Bool, true, false, List, [], ◌∷◌, ◌++◌, length, Option, Some, None}
-use Rattle.std.specs.List.{All, filter_map, slice_split}
+use Rattle.std.specs.Prelude.{◌≡◌, ◌==◌, ◌⊎◌, if◌then◌else◌, ℕ, ◌+◌, Bool, true, false, List, [], ◌∷◌, ◌++◌, length}
+use Rattle.std.specs.List.{All, slice_split}
 use Rattle.exact_ops.specs.Matrix.{IsUnimodular}
 use Rattle.exact_ops.specs.Operator.{Operator}
 use Rattle.triplet_text.specs.declared.lines.LineFault.{LineFault}
 use Rattle.triplet_text.specs.declared.lines.LineFault.TheVariants.{Unreadable, NotUnimodular, NoMemory}
 use Rattle.triplet_text.specs.Bytes.{is_blank, line_feed}
-use Rattle.triplet_text.specs.Triplets.{triplet_of}
+use Rattle.triplet_text.specs.Grammar.{IsTriplet}
 
 -- cut at each line feed; what follows the last one is a line too
 abbrev pub lines_of : List ℕ → List (List ℕ)
@@ -17,40 +17,38 @@ abbrev pub is_skipped : List ℕ → Bool
 is_skipped [] = true
 is_skipped (byte ∷ line) = if is_blank byte then is_skipped line else byte == 35
 
--- what a line says: nothing where it is skipped
-abbrev pub said_by : List ℕ → Option Operator
-said_by line = if is_skipped line then None else triplet_of line
-
--- what the lines say, in order
-abbrev pub operators_of : List (List ℕ) → List Operator
-operators_of lines = filter_map said_by lines
-
 -- a line that is not skipped and is no triplet
 pub record IsUnreadable (line : List ℕ) : Type 0 where
   pub kept : is_skipped line ≡ false
-  pub no_triplet : triplet_of line ≡ None
+  pub no_triplet : (f : Operator) → ¬ IsTriplet line f
 
 -- a line that is not skipped and is a triplet whose matrix has no whole inverse
 pub record IsNotUnimodular (line : List ℕ) : Type 0 where
   pub kept : is_skipped line ≡ false
   pub operator : Operator
-  pub triplet : triplet_of line ≡ Some operator
+  pub triplet : IsTriplet line operator
   pub not_unimodular : ¬ IsUnimodular operator.w
 
--- a line that is not skipped and is a triplet whose matrix has a whole inverse
-pub record IsRead (line : List ℕ) : Type 0 where
+-- a line that is not skipped and is a triplet of f, whose matrix has a whole inverse
+pub record IsRead (line : List ℕ) (f : Operator) : Type 0 where
   pub kept : is_skipped line ≡ false
-  pub operator : Operator
-  pub triplet : triplet_of line ≡ Some operator
-  pub unimodular : IsUnimodular operator.w
+  pub triplet : IsTriplet line f
+  pub unimodular : IsUnimodular f.w
 
 abbrev pub IsGood : List ℕ → Type 0
-IsGood line = (is_skipped line ≡ true) ⊎ IsRead line
+IsGood line = (is_skipped line ≡ true) ⊎ ((f : Operator) × IsRead line f)
 
--- every line is good, and the list has what they say
-pub record AreRead (lines : List (List ℕ)) (list : List Operator) : Type 0 where
-  pub good : All IsGood lines
-  pub operators : list ≡ operators_of lines
+-- line by line: each is skipped or read, and the list has what is read, in order
+pub data AreRead : List (List ℕ) → List Operator → Type 0 where
+  end : AreRead [] []
+  skipped : {line : List ℕ} {lines : List (List ℕ)} {list : List Operator} → is_skipped line ≡ true → AreRead lines list → AreRead (line ∷ lines) list
+  read : {line : List ℕ} {lines : List (List ℕ)} {f : Operator} {list : List Operator} → IsRead line f → AreRead lines list → AreRead (line ∷ lines) (f ∷ list)
+
+-- a list grew by what these lines say
+pub record AddsRead (lines : List (List ℕ)) (old new : List Operator) : Type 0 where
+  pub added : List Operator
+  pub read : AreRead lines added
+  pub grown : new ≡ old ++ added
 
 -- line k is bad, and each line before it is good
 pub record IsFirstBad (Bad : List ℕ → Type 0) (lines : List (List ℕ)) (k : ℕ) : Type 0 where

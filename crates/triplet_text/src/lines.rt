@@ -1,6 +1,6 @@
-ghost use Rattle.std.specs.Prelude.{◌≡◌, ◌==◌, ◌∷◌, [], ◌++◌, ◌<◌, ◌≤◌, MatchOption, OnOk, IfOk, IfErr, length, position};
+ghost use Rattle.std.specs.Prelude.{◌≡◌, ◌==◌, ◌∷◌, [], ◌<◌, ◌≤◌, MatchOption, OnOk, IfOk, IfErr, length, position};
 ghost use Rattle.triplet_text.specs.Bytes.{line_feed};
-ghost use Rattle.triplet_text.specs.Lines.{lines_of, is_skipped, operators_of, IsGood, AreRead, IsFaultAt, IsFaultOf};
+ghost use Rattle.triplet_text.specs.Lines.{lines_of, is_skipped, AreRead, AddsRead, IsFaultAt, IsFaultOf};
 
 use crate::pieces::is_blank_byte;
 use crate::triplet::read_triplet;
@@ -58,8 +58,7 @@ fn first_feed(bytes: &[u8]) -> Option<usize>
 
 /// Adds what the line of this number says.
 fn take_line(list: &mut OpList, number: u32, line: &[u8]) -> Result<(), LineFault>
-    ensures good { OnOk result (IsGood line.now) }
-    ensures list { OnOk result (list.new ≡ list.old ++ operators_of (line.now ∷ [])) }
+    ensures read { OnOk result (AddsRead (line.now ∷ []) list.old list.new) }
     ensures fault { IfErr result (IsFaultAt number line.now) }
 {
     if is_skipped_line(line) {

@@ -1,9 +1,10 @@
-ghost use Rattle.std.specs.Prelude.{◌≡◌, ◌≤◌, ◌^◌, length};
+ghost use Rattle.std.specs.Prelude.{◌≡◌, ◌≤◌, ◌^◌, length, IfSome, IfNone};
 ghost use Rattle.std.specs.Option.{option_map};
-ghost use Rattle.exact_ops.specs.Operator.{IsPart};
+ghost use Rattle.exact_ops.specs.Operator.{Operator, IsPart};
 ghost use Rattle.exact_ops.specs.Numbers.{numbers};
 ghost use Rattle.triplet_text.specs.Components.{IsSumOf, Within};
-ghost use Rattle.triplet_text.specs.Triplets.{modulo_cell, operator_by, three_sums, components_of, triplet_of};
+ghost use Rattle.triplet_text.specs.Triplets.{modulo_cell, operator_by, three_sums, components_of};
+ghost use Rattle.triplet_text.specs.Grammar.{IsTriplet};
 
 use crate::component::Component;
 use crate::pieces::{cut_at, without_blanks, without_quotes};
@@ -15,7 +16,8 @@ use exact_ops::{Raw, UNIT};
 /// with a star or none between them, a whole number of cells, a fraction whose denominator divides `UNIT`, or a decimal
 /// that is a whole number of parts of a cell.
 pub fn read_triplet(line: &[u8]) -> Option<Raw>
-    ensures { option_map numbers result ≡ triplet_of line.now }
+    ensures some { IfSome result (λ raw. IsTriplet line.now (numbers raw)) }
+    ensures none { IfNone result ((f : Operator) → ¬ IsTriplet line.now f) }
 {
     if line.len() > 255 {
         return None;
