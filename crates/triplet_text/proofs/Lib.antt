@@ -1,10 +1,13 @@
 mod Texts
 mod ByteKinds
 mod Options
+mod Ranges
 mod Values
 mod TermTexts
 mod SumTexts
 pub mod GrammarLaw
+mod Components
+mod ReadBack
 mod Written
 mod Trims
 mod Bounds

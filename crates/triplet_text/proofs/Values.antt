@@ -20,6 +20,7 @@ use Rattle.triplet_text.specs.Tokens.{Each}
 use Rattle.triplet_text.specs.Grammar.{value_of, IsWhole, IsDecimal, IsFraction}
 use Rattle.triplet_text.proofs.Options.{both, then_some, map_some, if_some, else_some}
 use Rattle.triplet_text.proofs.Texts.{all_joined, all_front, all_back}
+use Rattle.triplet_text.proofs.Ranges.{all_below, below_each}
 
 -- ---- runs of digits
 
@@ -69,33 +70,20 @@ whole_from run n e =
 
 -- ---- denominators
 
--- a test of each number from 1 to n
-abbrev pub all_up_to : ℕ → (ℕ → Bool) → Bool
-all_up_to zero test = true
-all_up_to (suc n) test = test (suc n) && all_up_to n test
-
-pub up_to_each : (n : ℕ) (test : ℕ → Bool) → all_up_to n test ≡ true → (k : ℕ) → 0 < k → k ≤ n → test k ≡ true
-up_to_each zero test e k some le = absurd (omega arith)
-up_to_each (suc n) test e k some le =
-    let h = both (test (suc n)) (all_up_to n test) e in
-    elim (eqb_tells k (suc n)) [
-      | inl p ↦ rw p.1 h.0
-      | inr p ↦ let other = p.1 in up_to_each n test h.1 k some (omega arith)
-    ]
-
 not_true : (b : Bool) → not b ≡ true → b ≡ false
 not_true true e = absurd cc
 not_true false e = refl
 
 abbrev starts_well : ℕ → Bool
-starts_well d = not (has_leading_zero (decimal d))
+starts_well k = not (has_leading_zero (decimal (suc k)))
 
-all_start_well : all_up_to UNIT starts_well ≡ true
+all_start_well : all_below UNIT starts_well ≡ true
 unfolding digits
 all_start_well = refl
 
 no_zero_first : (d : ℕ) → 0 < d → d ≤ UNIT → has_leading_zero (decimal d) ≡ false
-no_zero_first d some le = not_true _ (up_to_each UNIT starts_well all_start_well d some le)
+no_zero_first zero some le = absurd (omega arith)
+no_zero_first (suc k) some le = not_true _ (below_each UNIT starts_well all_start_well k (omega arith))
 
 pub denominator_to : (text : List ℕ) (d : ℕ) → text ≡ decimal d → d ∣ UNIT → denominator_of text ≡ Some d
 denominator_to text d e divides =

@@ -1,6 +1,7 @@
 ghost use Rattle.std.specs.Prelude.{◌≡◌, ◌≤◌, length, unsigned_abs};
 ghost use Rattle.exact_ops.specs.Operator.{IsPart, AreWithin};
 ghost use Rattle.triplet_text.specs.Printing.{coefficient_text, constant_text, terms_text, component_text, operator_text};
+ghost use Rattle.triplet_text.specs.Grammar.{IsTriplet};
 
 use crate::fraction::lowest_terms;
 use crate::text::Text;
@@ -9,7 +10,9 @@ use itoa::Buffer;
 
 /// The triplet of an operator, with a reduced fraction for each number of its translation that is not 0.
 pub fn print_triplet(op: &Op) -> Text
-    ensures { result ≡ operator_text op.now }
+    ensures text { result ≡ operator_text op.now }
+    // What is printed is read back.
+    ensures reads { IsTriplet result op.now }
 {
     let w = op.w();
     let t = op.t();
