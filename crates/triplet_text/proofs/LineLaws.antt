@@ -17,11 +17,11 @@ abbrev pub AreBad : (List ℕ → Type 0) → Type 0
 AreBad Bad = (line : List ℕ) → IsGood line → Bad line → ⊥
 
 pub unreadable_are_bad : AreBad IsUnreadable
-unreadable_are_bad line (inl s) u = let k = u.kept in cc
+unreadable_are_bad line (inl s) u = absurd (u.kept s)
 unreadable_are_bad line (inr r) u = u.no_triplet r.0 r.1.triplet
 
 pub not_unimodular_are_bad : AreBad IsNotUnimodular
-not_unimodular_are_bad line (inl s) n = let k = n.kept in cc
+not_unimodular_are_bad line (inl s) n = absurd (n.kept s)
 not_unimodular_are_bad line (inr r) n = n.not_unimodular (subst (λ (f : Operator). IsUnimodular f.w) (one_operator line r.0 n.operator r.1.triplet n.triplet) r.1.unimodular)
 
 pub unreadable_or_not_unimodular : (line : List ℕ) → IsUnreadable line → IsNotUnimodular line → ⊥
@@ -58,8 +58,8 @@ same_place Bad Other lines j k bad other f g =
 pub same_list : (lines : List (List ℕ)) (a b : List Operator) → AreRead lines a → AreRead lines b → a ≡ b
 same_list [] a b end end = refl
 same_list (line ∷ lines) a b (skipped s p) (skipped t q) = same_list lines a b p q
-same_list (line ∷ lines) a b (skipped s p) (read r q) = let k = r.kept in absurd cc
-same_list (line ∷ lines) a b (read r p) (skipped s q) = let k = r.kept in absurd cc
+same_list (line ∷ lines) a b (skipped s p) (read r q) = absurd (r.kept s)
+same_list (line ∷ lines) a b (read r p) (skipped s q) = absurd (r.kept s)
 same_list (line ∷ lines) a b (read {f = f} {list = list} r p) (read {f = g} {list = other} s q) =
     let head = one_operator line f g r.triplet s.triplet in
     let tail = same_list lines list other p q in

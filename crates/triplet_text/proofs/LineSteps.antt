@@ -1,12 +1,47 @@
 -- Lines that were read one by one.
-use Rattle.std.proofs.Common.{◌≡◌, ℕ, ◌+◌, ◌<◌, ◌≤◌, List, [], ◌∷◌, ◌++◌, Option, Some, None, MatchOption, Bor, length, inl, inr, sym, subst, ◌∙◌, refl, arith, length-append, append_assoc}
+use Rattle.std.proofs.Common.{◌≡◌, ℕ, ◌+◌, ◌<◌, ◌≤◌, Bool, true, false, List, [], ◌∷◌, ◌++◌, Option, Some, None, MatchOption, Bor, length, inl, inr, sym, subst, ◌∙◌, refl, arith, length-append, append_assoc}
 use Rattle.std.proofs.lemmas.List.{append-nil}
 use Rattle.std.specs.List.{AllByRecursion}
 use Rattle.std.proofs.lemmas.List.Elements.{All-from_recursion}
 use Rattle.exact_ops.specs.Operator.{Operator}
 use Rattle.triplet_text.specs.declared.lines.LineFault.{LineFault}
 use Rattle.triplet_text.specs.declared.lines.LineFault.TheVariants.{Unreadable, NotUnimodular, NoMemory}
-use Rattle.triplet_text.specs.Lines.{lines_of, IsGood, AreRead, end, skipped, read, AddsRead, IsFirstBad, IsFaultAt, IsFaultOf, IsUnreadable, IsNotUnimodular}
+use borrow.Author.Tests.{eqb-true}
+use Rattle.triplet_text.specs.Bytes.{is_blank, hash}
+use Rattle.triplet_text.specs.Tokens.{Each}
+use Rattle.triplet_text.specs.Pieces.{is_skipped}
+use Rattle.triplet_text.specs.Lines.{IsSkipped, blank, comment, lines_of, IsGood, AreRead, end, skipped, read, AddsRead, IsFirstBad, IsFaultAt, IsFaultOf, IsUnreadable, IsNotUnimodular}
+
+-- ---- skipped lines
+
+onto_skipped : (byte : ℕ) (line : List ℕ) → is_blank byte ≡ true → IsSkipped line → IsSkipped (byte ∷ line)
+onto_skipped byte line b (blank h) = blank (b, h)
+onto_skipped byte line b (comment blanks rest h) = comment (byte ∷ blanks) rest (b, h)
+
+pub skipped_from : (line : List ℕ) → is_skipped line ≡ true → IsSkipped line
+skipped_from [] e = blank tt
+skipped_from (byte ∷ line) e = by (is_blank byte) refl (skipped_from line)
+  where
+    by : (b : Bool) → is_blank byte ≡ b → (is_skipped line ≡ true → IsSkipped line) → IsSkipped (byte ∷ line)
+    by true h i = onto_skipped byte line h (i (rw h at e))
+    by false h i = let is = eqb-true byte hash (rw h at e) in subst (λ (b : ℕ). IsSkipped (b ∷ line)) (sym is) (comment [] line tt)
+
+skipped_blank : (line : List ℕ) → Each is_blank line → is_skipped line ≡ true
+skipped_blank [] h = refl
+skipped_blank (byte ∷ line) h = rw h.0 (skipped_blank line h.1)
+
+skipped_comment : (blanks rest : List ℕ) → Each is_blank blanks → is_skipped (blanks ++ hash ∷ rest) ≡ true
+skipped_comment [] rest h = refl
+skipped_comment (byte ∷ blanks) rest h = rw h.0 (skipped_comment blanks rest h.1)
+
+skipped_to : {line : List ℕ} → IsSkipped line → is_skipped line ≡ true
+skipped_to (blank {line = line} h) = skipped_blank line h
+skipped_to (comment blanks rest h) = skipped_comment blanks rest h
+
+pub not_skipped : (line : List ℕ) (b : Bool) → b ≡ is_skipped line → b ≡ false → ¬ IsSkipped line
+not_skipped line b is e s = let k = skipped_to s in cc
+
+-- ---- lines one by one
 
 -- the lines that are left, and a number that falls with them
 abbrev pub lines_left : Option (Bor (List ℕ)) → List (List ℕ)

@@ -5,43 +5,44 @@ use Rattle.exact_ops.specs.Matrix.{IsUnimodular}
 use Rattle.exact_ops.specs.Operator.{Operator}
 use Rattle.triplet_text.specs.declared.lines.LineFault.{LineFault}
 use Rattle.triplet_text.specs.declared.lines.LineFault.TheVariants.{Unreadable, NotUnimodular, NoMemory}
-use Rattle.triplet_text.specs.Bytes.{is_blank, line_feed}
+use Rattle.triplet_text.specs.Bytes.{is_blank, line_feed, hash}
+use Rattle.triplet_text.specs.Tokens.{Each}
 use Rattle.triplet_text.specs.Grammar.{IsTriplet}
 
 -- cut at each line feed; what follows the last one is a line too
 abbrev pub lines_of : List ℕ → List (List ℕ)
 lines_of bytes = slice_split (λ byte. byte == line_feed) bytes
 
--- each byte is a blank, or the first that is none is '#'
-abbrev pub is_skipped : List ℕ → Bool
-is_skipped [] = true
-is_skipped (byte ∷ line) = if is_blank byte then is_skipped line else byte == 35
+-- a line of blanks alone, or whose first byte that is no blank is '#'
+pub data IsSkipped : List ℕ → Type 0 where
+  blank : {line : List ℕ} → Each is_blank line → IsSkipped line
+  comment : (blanks rest : List ℕ) → Each is_blank blanks → IsSkipped (blanks ++ hash ∷ rest)
 
 -- a line that is not skipped and is no triplet
 pub record IsUnreadable (line : List ℕ) : Type 0 where
-  pub kept : is_skipped line ≡ false
+  pub kept : ¬ IsSkipped line
   pub no_triplet : (f : Operator) → ¬ IsTriplet line f
 
 -- a line that is not skipped and is a triplet whose matrix has no whole inverse
 pub record IsNotUnimodular (line : List ℕ) : Type 0 where
-  pub kept : is_skipped line ≡ false
+  pub kept : ¬ IsSkipped line
   pub operator : Operator
   pub triplet : IsTriplet line operator
   pub not_unimodular : ¬ IsUnimodular operator.w
 
 -- a line that is not skipped and is a triplet of f, whose matrix has a whole inverse
 pub record IsRead (line : List ℕ) (f : Operator) : Type 0 where
-  pub kept : is_skipped line ≡ false
+  pub kept : ¬ IsSkipped line
   pub triplet : IsTriplet line f
   pub unimodular : IsUnimodular f.w
 
 abbrev pub IsGood : List ℕ → Type 0
-IsGood line = (is_skipped line ≡ true) ⊎ ((f : Operator) × IsRead line f)
+IsGood line = IsSkipped line ⊎ ((f : Operator) × IsRead line f)
 
 -- line by line: each is skipped or read, and the list has what is read, in order
 pub data AreRead : List (List ℕ) → List Operator → Type 0 where
   end : AreRead [] []
-  skipped : {line : List ℕ} {lines : List (List ℕ)} {list : List Operator} → is_skipped line ≡ true → AreRead lines list → AreRead (line ∷ lines) list
+  skipped : {line : List ℕ} {lines : List (List ℕ)} {list : List Operator} → IsSkipped line → AreRead lines list → AreRead (line ∷ lines) list
   read : {line : List ℕ} {lines : List (List ℕ)} {f : Operator} {list : List Operator} → IsRead line f → AreRead lines list → AreRead (line ∷ lines) (f ∷ list)
 
 -- a list grew by what these lines say

@@ -1,7 +1,12 @@
 -- Pieces of a text: without the blanks at its ends, without its quotes, before and after a byte.
-use Rattle.std.specs.Prelude.{◌==◌, ◌&&◌, if◌then◌else◌, Bool, ℕ, List, [], ◌∷◌, length, Option, nat_lt, take, drop, position, slice_index, ◌-◌, ◌+◌}
+use Rattle.std.specs.Prelude.{◌==◌, ◌&&◌, if◌then◌else◌, Bool, true, ℕ, List, [], ◌∷◌, length, Option, nat_lt, take, drop, position, slice_index, ◌-◌, ◌+◌}
 use Rattle.std.specs.Option.{option_map}
-use Rattle.triplet_text.specs.Bytes.{is_blank, is_quote}
+use Rattle.triplet_text.specs.Bytes.{is_blank, is_quote, hash}
+
+-- whether each byte is a blank, or the first that is none is '#'
+abbrev pub is_skipped : List ℕ → Bool
+is_skipped [] = true
+is_skipped (byte ∷ line) = if is_blank byte then is_skipped line else byte == hash
 
 abbrev pub trim_start : List ℕ → List ℕ
 trim_start [] = []

@@ -1,6 +1,7 @@
 ghost use Rattle.std.specs.Prelude.{◌≡◌, ◌==◌, ◌∷◌, [], ◌<◌, ◌≤◌, MatchOption, OnOk, IfOk, IfErr, length, position};
 ghost use Rattle.triplet_text.specs.Bytes.{line_feed};
-ghost use Rattle.triplet_text.specs.Lines.{lines_of, is_skipped, AreRead, AddsRead, IsFaultAt, IsFaultOf};
+ghost use Rattle.triplet_text.specs.Pieces.{is_skipped};
+ghost use Rattle.triplet_text.specs.Lines.{lines_of, AreRead, AddsRead, IsFaultAt, IsFaultOf};
 
 use crate::pieces::is_blank_byte;
 use crate::triplet::read_triplet;
