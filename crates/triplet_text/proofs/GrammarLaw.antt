@@ -1,5 +1,5 @@
 -- What is read of a line is what the grammar says of it.
-use Rattle.std.proofs.Common.{◌≡◌, inl, inr, ◌⊎◌, ◌↔◌, ℕ, ◌+◌, ◌-◌, ◌<◌, ◌≤◌, Bool, true, false, eqb, ltb, leb, ◌&&◌, cond, List, [], ◌∷◌, ◌++◌, length, take, get_or, Option, Some, None, refl, sym, ap, subst, ◌∙◌, arith, append_assoc, length-append}
+use Rattle.std.proofs.Common.{◌≡◌, inl, inr, ◌⊎◌, ℕ, ◌+◌, ◌-◌, ◌<◌, ◌≤◌, Bool, true, false, eqb, ltb, leb, ◌&&◌, List, [], ◌∷◌, ◌++◌, length, take, get_or, Option, Some, None, refl, sym, ap, subst, ◌∙◌, arith, append_assoc, length-append}
 use Rattle.std.specs.Prelude.{option_and_then, slice_index, IfSome, IfNone}
 use Rattle.std.specs.Option.{option_map}
 use Rattle.std.proofs.lemmas.Bool.{lt-ltb, le-leb, eq-eqb}
@@ -8,17 +8,16 @@ use borrow.Author.Tests.{eqb-true, ltb-true, leb-true}
 use Rattle.exact_ops.specs.Operator.{Operator, modulo}
 use Rattle.exact_ops.specs.Numbers.{numbers}
 use Rattle.exact_ops.specs.declared.raw.Raw.{Raw}
-use Rattle.exact_ops.specs.declared.TheConstants.{UNIT}
 use Rattle.triplet_text.specs.declared.component.Component.{Component}
-use Rattle.triplet_text.specs.Bytes.{is_blank, is_quote, comma}
-use Rattle.triplet_text.specs.Pieces.{trim, trim_end, cut, unquoted}
+use Rattle.triplet_text.specs.Bytes.{is_quote, comma}
+use Rattle.triplet_text.specs.Pieces.{trim, cut, unquoted}
 use Rattle.triplet_text.specs.Sums.{sum_of}
 use Rattle.triplet_text.specs.Triplets.{operator_by, three_sums, components_of, triplet_of}
 use Rattle.triplet_text.specs.Tokens.{Token, Mark, HasTokens}
 use Rattle.triplet_text.specs.Grammar.{IsSum, AreThreeSums, IsQuoted, IsWithin, IsTriplet}
 use Rattle.triplet_text.proofs.Options.{both, then_some, if_some}
 use Rattle.triplet_text.proofs.ByteKinds.{is_no_comma, quote_solid}
-use Rattle.triplet_text.proofs.Texts.{Lacks, cut_first, cut_nowhere, first_or_none, end_behind, solid_kept, trim_is, IsTrimmed, is_trimmed}
+use Rattle.triplet_text.proofs.Texts.{cut_first, cut_nowhere, first_or_none, end_behind, solid_kept, trim_is, is_trimmed}
 use Rattle.triplet_text.proofs.Trims.{with_last}
 use Rattle.triplet_text.proofs.Written.{AreOfKind, join, split, blanks_behind, text_without_commas, trimmed_has, has_trimmed}
 use Rattle.triplet_text.proofs.SumTexts.{sum_kind, sum_to, sum_from}
@@ -28,7 +27,7 @@ use Rattle.triplet_text.proofs.SumTexts.{sum_kind, sum_to, sum_from}
 at_comma : (text : List ℕ) (p : List ℕ × List ℕ) → cut (λ b. eqb b comma) text ≡ Some p → text ≡ p.0 ++ comma ∷ p.1
 at_comma text p e =
     elim (first_or_none (λ b. eqb b comma) text) [
-      inl f ↦
+      | inl f ↦
           let same : (f.front, f.back) ≡ p = cc (sym (cut_first (λ b. eqb b comma) f.front f.byte f.back f.lacks f.passed) ∙ ap (cut (λ b. eqb b comma)) (sym f.cut) ∙ e) in
           f.cut ∙ (λ i. (same i).0 ++ eqb-true f.byte comma f.passed i ∷ (same i).1)
       | inr l ↦ let k = cut_nowhere (λ b. eqb b comma) text l in absurd cc
@@ -157,16 +156,19 @@ unquotes_by line true byte text e h =
     let t = is_trimmed line in
     let whole : text ≡ take n text ++ byte ∷ [] = with_last text n (omega arith) ∙ ap (λ (last : ℕ). take n text ++ last ∷ []) (eqb-true _ _ k.1) in
     let cut : line ≡ t.before ++ byte ∷ (take n text ++ byte ∷ t.after) =
-        t.cut ∙ ap (λ (s : List ℕ). t.before ++ (s ++ t.after)) (e ∙ ap (λ (s : List ℕ). byte ∷ s) whole) ∙ ap (λ (s : List ℕ). t.before ++ byte ∷ s) (append_assoc (take n text) (byte ∷ []) t.after) in
+    t.cut ∙ ap (λ (s : List ℕ). t.before ++ (s ++ t.after)) (e ∙ ap (λ (s : List ℕ). byte ∷ s) whole) ∙ ap (λ (s : List ℕ). t.before ++ byte ∷ s) (append_assoc (take n text) (byte ∷ []) t.after) in
     let quoted : IsQuoted line (take n text) = record { before = t.before; after = t.after; quote = byte; cut = cut; blank_before = t.blank_before; blank_after = t.blank_after; is_quote = l.0 } in
     inl (subst (IsQuoted line) (sym (ap unquoted e ∙ with_quotes byte text h)) quoted)
 unquotes_by line false byte text e h =
-    inr (ap unquoted e ∙ without_quotes byte text h ∙ sym e, λ other q.
-        let same : byte ∷ text ≡ q.quote ∷ (other ++ q.quote ∷ []) = sym e ∙ quoted_trim line other q in
-        let head : byte ≡ q.quote = cc in
-        let tail : text ≡ other ++ q.quote ∷ [] = cc in
-        let seen : has_quotes byte text ≡ true = (λ i. has_quotes (head i) (tail i)) ∙ quotes_seen q.quote other q.is_quote in
-        absurd cc)
+    inr (
+      ap unquoted e ∙ without_quotes byte text h ∙ sym e,
+      λ other q.
+          let same : byte ∷ text ≡ q.quote ∷ (other ++ q.quote ∷ []) = sym e ∙ quoted_trim line other q in
+          let head : byte ≡ q.quote = cc in
+          let tail : text ≡ other ++ q.quote ∷ [] = cc in
+          let seen : has_quotes byte text ≡ true = (λ i. has_quotes (head i) (tail i)) ∙ quotes_seen q.quote other q.is_quote in
+          absurd cc,
+    )
 
 unquotes_from : (line trimmed : List ℕ) → trim line ≡ trimmed → Unquotes line
 unquotes_from line [] e = inr (ap unquoted e ∙ sym e, λ other q. let same : [] ≡ q.quote ∷ (other ++ q.quote ∷ []) = sym e ∙ quoted_trim line other q in absurd cc)
@@ -183,7 +185,7 @@ triplet_to line f t = rw (le-leb _ 255 t.short) (by t.within)
     by : IsWithin line t.text → components_of (trim (unquoted (trim line))) ≡ Some f
     by (inl q) = ap (λ (s : List ℕ). components_of (trim s)) (quoted_is line t.text q) ∙ sums_to (trim t.text) t.tokens f t.sums (trimmed_has t.text t.tokens t.has_tokens)
     by (inr bare) = elim (unquotes line) [
-        inl q ↦ absurd (bare.1 (unquoted (trim line)) q)
+      | inl q ↦ absurd (bare.1 (unquoted (trim line)) q)
       | inr same ↦
           ap (λ (s : List ℕ). components_of (trim s)) (same.0 ∙ ap trim (sym bare.0))
           ∙ sums_to (trim (trim t.text)) t.tokens f t.sums (trimmed_has (trim t.text) t.tokens (trimmed_has t.text t.tokens t.has_tokens))
@@ -195,7 +197,7 @@ triplet_from line f e =
     let s = sums_from (trim (unquoted (trim line))) f h.1 in
     let short = leb-true _ _ h.0 in
     elim (unquotes line) [
-      inl q ↦ record { short = short; text = unquoted (trim line); tokens = s.tokens; within = inl q; has_tokens = has_trimmed (unquoted (trim line)) s.tokens s.has_tokens; sums = s.sums }
+      | inl q ↦ record { short = short; text = unquoted (trim line); tokens = s.tokens; within = inl q; has_tokens = has_trimmed (unquoted (trim line)) s.tokens s.has_tokens; sums = s.sums }
       | inr bare ↦ record {
         short = short;
         text = line;

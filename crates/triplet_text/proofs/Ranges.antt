@@ -13,6 +13,6 @@ below_each zero test e k lt = absurd (omega arith)
 below_each (suc n) test e k lt =
     let h = both (test n) (all_below n test) e in
     elim (eqb_tells k n) [
-      inl p ↦ rw p.1 h.0
+      | inl p ↦ rw p.1 h.0
       | inr p ↦ let other = p.1 in below_each n test h.1 k (omega arith)
     ]

@@ -1,5 +1,5 @@
 -- A printed operator is read back.
-use Rattle.std.proofs.Common.{◌≡◌, ℕ, ◌+◌, ◌≤◌, Bool, true, false, eqb, leb, List, [], ◌∷◌, ◌++◌, length, Some, refl, sym, ap, ◌∙◌, arith, length-append, append_assoc}
+use Rattle.std.proofs.Common.{◌≡◌, ℕ, ◌≤◌, Bool, true, false, eqb, leb, List, [], ◌∷◌, ◌++◌, length, Some, refl, ap, ◌∙◌, arith, length-append, append_assoc}
 use Rattle.std.specs.Prelude.{ℤ, pos, negsuc, ◌<◌}
 use Rattle.std.proofs.Math.Nat.{mod-eq_of_lt}
 use Rattle.std.proofs.lemmas.Int.{ints}
@@ -10,14 +10,14 @@ use Rattle.exact_ops.specs.Narrow.{IsNarrow}
 use Rattle.exact_ops.specs.declared.TheConstants.{UNIT}
 use Rattle.triplet_text.specs.declared.component.Component.{Component}
 use Rattle.triplet_text.specs.Bytes.{is_blank, is_quote, comma}
-use Rattle.triplet_text.specs.Pieces.{trim, trim_start, trim_end, unquoted, cut}
+use Rattle.triplet_text.specs.Pieces.{trim, trim_end, unquoted}
 use Rattle.triplet_text.specs.Sums.{sum_of}
 use Rattle.triplet_text.specs.Triplets.{modulo_cell, operator_by, triplet_of}
 use Rattle.triplet_text.specs.Printing.{component_text, operator_text}
 use Rattle.triplet_text.specs.Tokens.{Each}
 use Rattle.triplet_text.specs.Grammar.{IsTriplet}
 use Rattle.triplet_text.proofs.Texts.{Lacks, all_joined, all_mapped, start_kept, solid_kept, cut_first}
-use Rattle.triplet_text.proofs.Components.{is_plain, IsReadBack, component_back}
+use Rattle.triplet_text.proofs.Components.{is_plain, component_back}
 use Rattle.triplet_text.proofs.GrammarLaw.{triplet_from}
 
 plain_no_blank : (byte : ℕ) → is_plain byte ≡ true → is_blank byte ≡ false

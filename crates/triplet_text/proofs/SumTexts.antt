@@ -1,6 +1,5 @@
 -- A text says what a sum says exactly where its tokens are that sum.
-use Rattle.std.proofs.Common.{◌≡◌, ℕ, ◌<◌, Bool, true, false, eqb, ◌||◌, ◌&&◌, List, [], ◌∷◌, ◌++◌, length, Option, Some, None, refl, sym, ap, subst, ◌∙◌, arith, append_assoc}
-use Rattle.std.specs.Prelude.{ℤ, option_and_then}
+use Rattle.std.proofs.Common.{◌≡◌, ℕ, Bool, true, false, eqb, List, [], ◌∷◌, ◌++◌, Some, refl, sym, ap, subst, ◌∙◌, arith, append_assoc}
 use Rattle.std.specs.List.{flat_map, AllByRecursion, list_all}
 use Rattle.std.proofs.lemmas.Int.{ints}
 use Rattle.std.proofs.lemmas.List.{append-nil}
@@ -15,7 +14,7 @@ use Rattle.triplet_text.specs.Tokens.{Token, Sign, Each, HasTokens}
 use Rattle.triplet_text.specs.Grammar.{IsTerm, letter, digit_letter, digit_star_letter, cells, fraction, decimal_cells, IsSignedTerm, plus as positive, minus, AreSignedTerms, none, more, IsSum, term_first, sign_first, added, nothing}
 use Rattle.triplet_text.proofs.Options.{both, then_some}
 use Rattle.triplet_text.proofs.ByteKinds.{is_quiet, is_no_comma, blank_quiet, quiet_no_sign, quiet_no_comma}
-use Rattle.triplet_text.proofs.Texts.{Lacks, all_joined, all_mapped, trim_blanks}
+use Rattle.triplet_text.proofs.Texts.{Lacks, all_mapped, trim_blanks}
 use Rattle.triplet_text.proofs.Written.{join, split, sign_before, blanks_before, blanks_behind, IsFree, AreOfKind, kind_mapped, kind_joined, quiet_text}
 use Rattle.triplet_text.proofs.TermTexts.{term_to, term_from}
 
@@ -154,14 +153,17 @@ one_signed {first = first} {a = a} {b = b} rest s text h further =
     let blanks = more.1.blanks in
     let flat = flat_map signed_text more.0 in
     let x = f.0.rest ++ blanks in
-    let has : HasTokens x st.term = blanks_behind f.0.rest blanks st.term more.1.blank f.1 in
-    ((st.sign, x), more.0, record {
-      blanks = f.0.blanks;
-      spelled = sp.cut ∙ (λ i. f.0.cut i ++ more.1.spelled i) ∙ append_assoc f.0.blanks (st.sign ∷ f.0.rest) (blanks ++ flat) ∙ ap (λ (t : List ℕ). f.0.blanks ++ st.sign ∷ t) (sym (append_assoc f.0.rest blanks flat));
-      blank = f.0.blank;
-      each = ((st.is_sign, term_lacks_signs st.is_term x has), more.1.each);
-      adds = λ u. rw (term_to st.is_term x has) (more.1.adds (plus u (behind st.sign st.a)) ∙ ap (λ (v : Component). Some (added (added u v) b)) st.value ∙ ap (λ (v : Component). Some v) (added_assoc u a b));
-    })
+    let has : HasTokens x st.term = blanks_behind f.0.rest blanks st.term more.1.blank f.1 in (
+      (st.sign, x),
+      more.0,
+      record {
+        blanks = f.0.blanks;
+        spelled = sp.cut ∙ (λ i. f.0.cut i ++ more.1.spelled i) ∙ append_assoc f.0.blanks (st.sign ∷ f.0.rest) (blanks ++ flat) ∙ ap (λ (t : List ℕ). f.0.blanks ++ st.sign ∷ t) (sym (append_assoc f.0.rest blanks flat));
+        blank = f.0.blank;
+        each = ((st.is_sign, term_lacks_signs st.is_term x has), more.1.each);
+        adds = λ u. rw (term_to st.is_term x has) (more.1.adds (plus u (behind st.sign st.a)) ∙ ap (λ (v : Component). Some (added (added u v) b)) st.value ∙ ap (λ (v : Component). Some v) (added_assoc u a b));
+      },
+    )
 
 signed_to : {tokens : List Token} {c : Component} → AreSignedTerms tokens c → (text : List ℕ) → HasTokens text tokens → (signed : List (ℕ × List ℕ)) × IsSignedText text signed c
 signed_to none text h = ([], record { blanks = text; spelled = sym (append-nil text); blank = h; each = tt; adds = λ u. ap (λ (v : Component). Some v) (sym (added_nothing u)) })

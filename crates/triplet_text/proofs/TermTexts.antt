@@ -1,6 +1,5 @@
 -- A text says what one term says exactly where its tokens are that term.
-use Rattle.std.proofs.Common.{◌≡◌, inl, inr, ℕ, ◌+◌, ◌-◌, ◌*◌, ◌<◌, Bool, true, false, ◌||◌, eqb, List, [], ◌∷◌, ◌++◌, length, Option, Some, None, refl, sym, ap, subst, ◌∙◌, arith, length-append, append_assoc}
-use Rattle.std.specs.Prelude.{option_and_then}
+use Rattle.std.proofs.Common.{◌≡◌, inl, inr, ℕ, ◌-◌, ◌*◌, ◌<◌, Bool, true, false, eqb, List, [], ◌∷◌, ◌++◌, length, Some, refl, sym, ap, subst, ◌∙◌, arith, length-append, append_assoc}
 use Rattle.std.specs.Option.{option_map}
 use borrow.Author.Tests.{eqb-true}
 use Rattle.exact_ops.specs.declared.TheConstants.{UNIT}
@@ -10,11 +9,11 @@ use Rattle.triplet_text.specs.Pieces.{trim, trim_start, trim_end, cut}
 use Rattle.triplet_text.specs.Components.{times_letter, of_parts}
 use Rattle.triplet_text.specs.Terms.{product_of, cells_of, fraction_of, plain_of, term_of}
 use Rattle.triplet_text.specs.Digits.{whole_of, decimal_of}
-use Rattle.triplet_text.specs.Tokens.{Token, Sign, Mark, Letter, Number, Each, bytes_of, is_letter, is_in_number, IsToken, MayFollow, begins_with_blank, HasTokens}
-use Rattle.triplet_text.specs.Grammar.{IsWhole, IsDecimal, IsFraction, IsTerm, letter, digit_letter, digit_star_letter, cells, fraction, decimal_cells, times, translation}
-use Rattle.triplet_text.proofs.Options.{then_some, map_some, if_some}
-use Rattle.triplet_text.proofs.ByteKinds.{letter_solid, number_solid, digit_solid, digit_in_number, digit_no_star, digit_no_stroke, digit_no_point, number_no_star, number_no_stroke, letter_no_star, letter_no_stroke, letter_no_point, letter_no_digit, blank_no_star, blank_no_stroke, x_alone, y_alone, z_alone}
-use Rattle.triplet_text.proofs.Texts.{Lacks, all_joined, all_front, all_back, all_mapped, start_kept, solid_kept, end_behind, trim_is, trim_start_is, trim_end_is, start_cut, end_cut, IsTrimmed, is_trimmed, cut_first, cut_nowhere, HasFirst, first_or_none}
+use Rattle.triplet_text.specs.Tokens.{Token, Sign, Mark, Letter, Number, Each, bytes_of, is_letter, IsToken, MayFollow, begins_with_blank, HasTokens}
+use Rattle.triplet_text.specs.Grammar.{IsWhole, IsFraction, IsTerm, letter, digit_letter, digit_star_letter, cells, fraction, decimal_cells, times, translation}
+use Rattle.triplet_text.proofs.Options.{map_some, if_some}
+use Rattle.triplet_text.proofs.ByteKinds.{letter_solid, number_solid, digit_solid, digit_in_number, digit_no_star, digit_no_stroke, digit_no_point, number_no_star, number_no_stroke, letter_no_star, letter_no_stroke, letter_no_point, letter_no_digit, blank_no_star, blank_no_stroke, x_alone, y_alone}
+use Rattle.triplet_text.proofs.Texts.{Lacks, all_joined, all_front, all_back, all_mapped, solid_kept, end_behind, trim_is, trim_start_is, trim_end_is, start_cut, end_cut, is_trimmed, cut_first, cut_nowhere, HasFirst, first_or_none}
 use Rattle.triplet_text.proofs.Values.{whole_to, whole_from, fraction_to, fraction_from, under_is, decimal_to, decimal_from, decimal_digits}
 
 -- ---- letters
@@ -175,14 +174,17 @@ one_token text before token after e h g is = (record { blanks = before; rest = a
 -- a number, a mark and another token
 marked_tokens : (text b1 run b2 : List ℕ) (mark : ℕ) (b3 : List ℕ) (token : Token) (b4 : List ℕ) → text ≡ b1 ++ (((run ++ b2) ++ mark ∷ (b3 ++ bytes_of token)) ++ b4) → Each is_blank b1 → Each is_blank b2 → Each is_blank b3 → Each is_blank b4
     → IsToken (Number run) → IsToken (Mark mark) → IsToken token → HasTokens text (Number run ∷ Mark mark ∷ token ∷ [])
-marked_tokens text b1 run b2 mark b3 token b4 e h1 h2 h3 h4 is_run is_mark is_last = (record {
-  blanks = b1;
-  rest = b2 ++ mark ∷ (b3 ++ (bytes_of token ++ b4));
-  cut = e ∙ ap (λ (t : List ℕ). b1 ++ t) (regrouped run b2 mark b3 (bytes_of token) b4);
-  blank = h1;
-  is_token = is_run;
-  follow = tt;
-}, (record { blanks = b2; rest = b3 ++ (bytes_of token ++ b4); cut = refl; blank = h2; is_token = is_mark; follow = tt }, one_token _ b3 token b4 refl h3 h4 is_last))
+marked_tokens text b1 run b2 mark b3 token b4 e h1 h2 h3 h4 is_run is_mark is_last = (
+  record {
+    blanks = b1;
+    rest = b2 ++ mark ∷ (b3 ++ (bytes_of token ++ b4));
+    cut = e ∙ ap (λ (t : List ℕ). b1 ++ t) (regrouped run b2 mark b3 (bytes_of token) b4);
+    blank = h1;
+    is_token = is_run;
+    follow = tt;
+  },
+  (record { blanks = b2; rest = b3 ++ (bytes_of token ++ b4); cut = refl; blank = h2; is_token = is_mark; follow = tt }, one_token _ b3 token b4 refl h3 h4 is_last),
+)
 
 one_digit : (digit : ℕ) → is_digit digit ≡ true → IsWhole (digit ∷ []) (digit - zero_digit)
 one_digit digit h = record { some = omega arith; few = omega arith; digits = (h, tt); value = omega arith }
@@ -281,8 +283,10 @@ module _ (text before trimmed after : List ℕ) (whole : text ≡ before ++ (tri
       let l = times_from (digit - zero_digit) byte c e in
       record {
         tokens = Number (digit ∷ []) ∷ Letter byte ∷ [];
-        has_tokens = (record { blanks = before; rest = byte ∷ after; cut = whole ∙ ap (λ (t : List ℕ). before ++ (t ++ after)) is; blank = blank_before; is_token = (omega arith, (digit_in_number digit d, tt)); follow = letter_solid byte l.0 },
-          one_token (byte ∷ after) [] (Letter byte) after refl tt blank_after l.0);
+        has_tokens = (
+          record { blanks = before; rest = byte ∷ after; cut = whole ∙ ap (λ (t : List ℕ). before ++ (t ++ after)) is; blank = blank_before; is_token = (omega arith, (digit_in_number digit d, tt)); follow = letter_solid byte l.0 },
+          one_token (byte ∷ after) [] (Letter byte) after refl tt blank_after l.0,
+        );
         is_term = subst (IsTerm (Number (digit ∷ []) ∷ Letter byte ∷ [])) l.1 (digit_letter (one_digit digit d));
       }
 
@@ -304,11 +308,11 @@ module _ (text before trimmed after : List ℕ) (whole : text ≡ before ++ (tri
   trimmed_from : term_of trimmed ≡ Some c → IsTermText text c
   trimmed_from e =
       elim (first_or_none (λ b. eqb b star) trimmed) [
-        inl f ↦ star_from f e
+        | inl f ↦ star_from f e
         | inr no_star ↦ elim (first_or_none (λ b. eqb b stroke) trimmed) [
-          inl f ↦ stroke_from no_star f e
+          | inl f ↦ stroke_from no_star f e
           | inr no_stroke ↦ elim (first_or_none (λ b. eqb b point) trimmed) [
-            inl f ↦ point_from no_star no_stroke f e
+            | inl f ↦ point_from no_star no_stroke f e
             | inr no_point ↦ plain_from trimmed refl (sym (with_none trimmed no_star no_stroke no_point) ∙ e)
           ]
         ]

@@ -1,5 +1,5 @@
 -- Whole numbers, fractions and decimals are what the functions on runs of digits find.
-use Rattle.std.proofs.Common.{◌≡◌, ℕ, zero, suc, ◌+◌, ◌-◌, ◌*◌, ◌/◌, ◌%◌, ◌^◌, ◌<◌, ◌≤◌, Bool, true, false, ◌&&◌, not, List, [], ◌∷◌, ◌++◌, length, Option, Some, None, inl, inr, get_or, refl, sym, ap, subst, ◌∙◌, arith, length-append, leb, ltb, eqb, decimal}
+use Rattle.std.proofs.Common.{◌≡◌, ℕ, zero, suc, ◌+◌, ◌-◌, ◌*◌, ◌/◌, ◌%◌, ◌^◌, ◌<◌, ◌≤◌, Bool, true, false, ◌&&◌, not, List, [], ◌∷◌, ◌++◌, length, Option, Some, get_or, refl, sym, ap, subst, ◌∙◌, arith, length-append, leb, ltb, eqb, decimal}
 use Rattle.std.specs.Fmt.{digits}
 use Rattle.std.specs.Int.{◌∣◌}
 use Rattle.std.specs.Prelude.{option_and_then}
@@ -8,9 +8,8 @@ use Rattle.std.proofs.Math.Nat.{pow-suc, div-mul_cancel, mul_assoc, mul-div_canc
 use Rattle.std.proofs.lemmas.Nat.{pow-add}
 use Rattle.std.proofs.lemmas.Nat.Gcd.{dvd_of_mod-eq-zero, mod-eq-zero_of_dvd, le_of_dvd}
 use Rattle.std.proofs.lemmas.Bool.{lt-ltb, le-leb, eq-eqb}
-use Rattle.std.proofs.lemmas.Bool.Decides.{eqb_tells}
 use Rattle.std.proofs.lemmas.Fmt.{decimal-digits_value, digits_decimal, digits_value-decimal, length-decimal-le, decimal_is_IsNumeral}
-use Rattle.std.proofs.lemmas.Str.Parse.{IsNumeralModel, IsDigitsTest, WeighsDigits, numerals_by_weight, digits_value_short}
+use Rattle.std.proofs.lemmas.Str.Parse.{IsNumeralModel, numerals_by_weight, digits_value_short}
 use borrow.Author.Tests.{ltb-true, leb-true, eqb-true}
 use Rattle.exact_ops.specs.declared.TheConstants.{UNIT}
 use Rattle.triplet_text.specs.Bytes.{is_digit, zero_digit, point}
@@ -181,7 +180,7 @@ decimal_to front back parts ds some few less e =
     let n_is : n ≡ value_of front = omega arith in
     let value : n * 10 ^ length back + value_of back ≡ value_of (front ++ back) = ap (λ (m : ℕ). m * 10 ^ length back + value_of back) n_is ∙ sym (value_joined front back) in
     let three : parts_of_thousandths ((n * 10 ^ length back + value_of back) * 10 ^ (3 - length back)) ≡ Some parts =
-        ap (λ (m : ℕ). parts_of_thousandths (m * 10 ^ (3 - length back))) value ∙ thousandths_to (value_of (front ++ back) * 10 ^ (3 - length back)) parts (scaled (length back) (value_of (front ++ back)) parts less e) in
+    ap (λ (m : ℕ). parts_of_thousandths (m * 10 ^ (3 - length back))) value ∙ thousandths_to (value_of (front ++ back) * 10 ^ (3 - length back)) parts (scaled (length back) (value_of (front ++ back)) parts less e) in
     rw (le-leb _ 6 few, le-leb _ 3 less, lt-ltb 0 _ some) (rw one (rw two three))
 
 abbrev scaled_parts : List ℕ → ℕ → Option ℕ

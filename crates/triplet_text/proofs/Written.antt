@@ -1,9 +1,9 @@
 -- Texts by their tokens: joined, split, trimmed, and all of one kind of bytes.
-use Rattle.std.proofs.Common.{◌≡◌, ℕ, ◌+◌, ◌<◌, Bool, true, false, eqb, List, [], ◌∷◌, ◌++◌, length, refl, sym, ap, subst, ◌∙◌, arith, length-append, append_assoc}
+use Rattle.std.proofs.Common.{◌≡◌, ℕ, ◌<◌, Bool, true, false, eqb, List, [], ◌∷◌, ◌++◌, length, refl, sym, ap, subst, ◌∙◌, arith, length-append, append_assoc}
 use Rattle.std.proofs.lemmas.List.{append-nil}
 use Rattle.triplet_text.specs.Bytes.{is_blank, is_sign, comma}
 use Rattle.triplet_text.specs.Pieces.{onto, trim_start, trim_end, trim}
-use Rattle.triplet_text.specs.Tokens.{Token, Sign, Mark, Letter, Number, Each, bytes_of, IsToken, begins_with_blank, MayFollow, IsBefore, HasTokens, is_letter, is_in_number}
+use Rattle.triplet_text.specs.Tokens.{Token, Sign, Mark, Letter, Number, Each, bytes_of, IsToken, begins_with_blank, MayFollow, HasTokens, is_letter, is_in_number}
 use Rattle.triplet_text.proofs.Texts.{Lacks, all_joined, all_mapped, blanks_dropped, end_cut, is_trimmed}
 use Rattle.triplet_text.proofs.ByteKinds.{is_quiet, sign_solid, mark_solid, letter_solid, number_solid, is_no_comma, blank_quiet, letter_quiet, number_quiet, blank_no_comma, letter_no_comma, number_no_comma, comma_fails}
 
@@ -36,14 +36,17 @@ begins_same (byte ∷ front) back some = refl
 
 pub blanks_before : (blanks text : List ℕ) (tokens : List Token) → Each is_blank blanks → HasTokens text tokens → HasTokens (blanks ++ text) tokens
 blanks_before blanks text [] h t = all_joined _ blanks text h t
-blanks_before blanks text (token ∷ tokens) h t = (record {
-  blanks = blanks ++ t.0.blanks;
-  rest = t.0.rest;
-  cut = ap (λ (s : List ℕ). blanks ++ s) t.0.cut ∙ sym (append_assoc blanks t.0.blanks (bytes_of token ++ t.0.rest));
-  blank = all_joined _ blanks t.0.blanks h t.0.blank;
-  is_token = t.0.is_token;
-  follow = t.0.follow;
-}, t.1)
+blanks_before blanks text (token ∷ tokens) h t = (
+  record {
+    blanks = blanks ++ t.0.blanks;
+    rest = t.0.rest;
+    cut = ap (λ (s : List ℕ). blanks ++ s) t.0.cut ∙ sym (append_assoc blanks t.0.blanks (bytes_of token ++ t.0.rest));
+    blank = all_joined _ blanks t.0.blanks h t.0.blank;
+    is_token = t.0.is_token;
+    follow = t.0.follow;
+  },
+  t.1,
+)
 
 -- no letter and no number stands first
 abbrev pub IsFree : List Token → Type 0
@@ -70,14 +73,17 @@ follow_joined (Letter byte) xs ys rest back free f h = tt
 -- two texts one behind the other, where the second begins with no letter and no number
 pub join : (xs ys : List Token) (front back : List ℕ) → IsFree ys → HasTokens front xs → HasTokens back ys → HasTokens (front ++ back) (xs ++ ys)
 join [] ys front back free p q = blanks_before front back ys p q
-join (x ∷ xs) ys front back free p q = (record {
-  blanks = p.0.blanks;
-  rest = p.0.rest ++ back;
-  cut = ap (λ (s : List ℕ). s ++ back) p.0.cut ∙ append_assoc p.0.blanks (bytes_of x ++ p.0.rest) back ∙ ap (λ (s : List ℕ). p.0.blanks ++ s) (append_assoc (bytes_of x) p.0.rest back);
-  blank = p.0.blank;
-  is_token = p.0.is_token;
-  follow = follow_joined x xs ys p.0.rest back free p.0.follow p.1;
-}, join xs ys p.0.rest back free p.1 q)
+join (x ∷ xs) ys front back free p q = (
+  record {
+    blanks = p.0.blanks;
+    rest = p.0.rest ++ back;
+    cut = ap (λ (s : List ℕ). s ++ back) p.0.cut ∙ append_assoc p.0.blanks (bytes_of x ++ p.0.rest) back ∙ ap (λ (s : List ℕ). p.0.blanks ++ s) (append_assoc (bytes_of x) p.0.rest back);
+    blank = p.0.blank;
+    is_token = p.0.is_token;
+    follow = follow_joined x xs ys p.0.rest back free p.0.follow p.1;
+  },
+  join xs ys p.0.rest back free p.1 q,
+)
 
 pub sign_before : (byte : ℕ) (text : List ℕ) (tokens : List Token) → is_sign byte ≡ true → HasTokens text tokens → HasTokens (byte ∷ text) (Sign byte ∷ tokens)
 sign_before byte text tokens s h = (record { blanks = []; rest = text; cut = refl; blank = tt; is_token = s; follow = tt }, h)
@@ -109,14 +115,17 @@ split (x ∷ xs) ys text h =
       front = h.0.blanks ++ (bytes_of x ++ i.front);
       back = i.back;
       cut = h.0.cut ∙ ap (λ (s : List ℕ). h.0.blanks ++ (bytes_of x ++ s)) i.cut ∙ ap (λ (s : List ℕ). h.0.blanks ++ s) (sym (append_assoc (bytes_of x) i.front i.back)) ∙ sym (append_assoc h.0.blanks (bytes_of x ++ i.front) i.back);
-      first = (record {
-        blanks = h.0.blanks;
-        rest = i.front;
-        cut = refl;
-        blank = h.0.blank;
-        is_token = h.0.is_token;
-        follow = follow_split x xs ys i.front i.back (subst (λ (s : List ℕ). MayFollow x (xs ++ ys) s) i.cut h.0.follow) i.first;
-      }, i.first);
+      first = (
+        record {
+          blanks = h.0.blanks;
+          rest = i.front;
+          cut = refl;
+          blank = h.0.blank;
+          is_token = h.0.is_token;
+          follow = follow_split x xs ys i.front i.back (subst (λ (s : List ℕ). MayFollow x (xs ++ ys) s) i.cut h.0.follow) i.first;
+        },
+        i.first,
+      );
       second = i.second;
     }
 
@@ -229,7 +238,7 @@ end_trimmed (token ∷ tokens) text h =
     let f = first_byte token h.0.is_token in
     let stays = solid_stays (bytes_of token) rest (solid_bytes token h.0.is_token) in
     let cut : trim_end text ≡ h.0.blanks ++ (bytes_of token ++ trim_end rest) =
-        ap trim_end h.0.cut ∙ front_stays h.0.blanks (bytes_of token ++ rest) f.byte (f.more ++ trim_end rest) (stays ∙ ap (λ (t : List ℕ). t ++ trim_end rest) f.cut) ∙ ap (λ (t : List ℕ). h.0.blanks ++ t) stays in
+    ap trim_end h.0.cut ∙ front_stays h.0.blanks (bytes_of token ++ rest) f.byte (f.more ++ trim_end rest) (stays ∙ ap (λ (t : List ℕ). t ++ trim_end rest) f.cut) ∙ ap (λ (t : List ℕ). h.0.blanks ++ t) stays in
     let e = end_cut rest in
     (record { blanks = h.0.blanks; rest = trim_end rest; cut = cut; blank = h.0.blank; is_token = h.0.is_token; follow = follow_front token tokens rest (trim_end rest) e.0 e.1 h.0.follow i }, i)
 

@@ -1,5 +1,5 @@
 -- The triplet grammar: which lines are triplets, and what they say. docs/formats.md has it in words.
-use Rattle.std.specs.Prelude.{◌≡◌, ◌<◌, ◌≤◌, ◌⊎◌, if◌then◌else◌, ℕ, ◌+◌, ◌-◌, ◌*◌, ◌^◌, ℤ, pos, neg_ℤ, ◌+ℤ◌, true, List, [], ◌∷◌, ◌++◌, length, decimal}
+use Rattle.std.specs.Prelude.{◌≡◌, ◌<◌, ◌≤◌, ◌⊎◌, if◌then◌else◌, ℕ, ◌+◌, ◌-◌, ◌*◌, ◌^◌, pos, neg_ℤ, ◌+ℤ◌, true, List, [], ◌∷◌, ◌++◌, length, decimal}
 use Rattle.std.specs.Int.{◌∣◌}
 use Rattle.exact_ops.specs.Operator.{Operator, modulo}
 use Rattle.exact_ops.specs.declared.TheConstants.{UNIT}
@@ -9,7 +9,7 @@ use Rattle.triplet_text.specs.Tokens.{Token, Sign, Mark, Letter, Number, Each, H
 
 -- ---- numbers
 
--- what digits are worth
+-- the number that digits write: each counts ten times the one behind it
 abbrev pub value_of : List ℕ → ℕ
 value_of [] = 0
 value_of (digit ∷ digits) = (digit - zero_digit) * 10 ^ length digits + value_of digits
@@ -21,7 +21,7 @@ pub record IsWhole (run : List ℕ) (n : ℕ) : Type 0 where
   pub digits : Each is_digit run
   pub value : n ≡ value_of run
 
--- a decimal: up to six digits, a point and up to three digits, at least one digit in all; it is a whole number of parts of a cell
+-- a decimal: up to six digits, a point and up to three digits, at least one digit in all; it says so many parts of a cell
 pub record IsDecimal (run : List ℕ) (parts : ℕ) : Type 0 where
   pub front : List ℕ
   pub back : List ℕ
@@ -32,7 +32,7 @@ pub record IsDecimal (run : List ℕ) (parts : ℕ) : Type 0 where
   pub few_after : length back ≤ 3
   pub value : parts * 10 ^ length back ≡ value_of (front ++ back) * UNIT
 
--- a whole number over a divisor of UNIT, which is written without a zero before it; it is so many parts of a cell
+-- a whole number over a divisor of UNIT, which is written in decimal without a zero before it; it says so many parts of a cell
 pub record IsFraction (over under : List ℕ) (parts : ℕ) : Type 0 where
   pub n : ℕ
   pub d : ℕ
@@ -67,6 +67,7 @@ pub data IsTerm : List Token → Component → Type 0 where
 
 -- ---- sums
 
+-- behind a minus sign each number is negated
 abbrev pub negated : Component → Component
 negated a = record { x = neg_ℤ a.x; y = neg_ℤ a.y; z = neg_ℤ a.z; parts = neg_ℤ a.parts }
 
@@ -74,6 +75,7 @@ negated a = record { x = neg_ℤ a.x; y = neg_ℤ a.y; z = neg_ℤ a.z; parts = 
 abbrev pub added : Component → Component → Component
 added a b = record { x = a.x +ℤ b.x; y = a.y +ℤ b.y; z = a.z +ℤ b.z; parts = a.parts +ℤ b.parts }
 
+-- no term says this
 abbrev pub nothing : Component
 nothing = record { x = pos 0; y = pos 0; z = pos 0; parts = pos 0 }
 

@@ -1,5 +1,5 @@
 -- The lines of an input: what they say, and which of them is the first bad one. Lines are counted from 1.
-use Rattle.std.specs.Prelude.{◌≡◌, ◌==◌, ◌⊎◌, if◌then◌else◌, ℕ, ◌+◌, Bool, true, false, List, [], ◌∷◌, ◌++◌, length}
+use Rattle.std.specs.Prelude.{◌≡◌, ◌==◌, ◌⊎◌, ℕ, ◌+◌, List, [], ◌∷◌, ◌++◌, length}
 use Rattle.std.specs.List.{All, slice_split}
 use Rattle.exact_ops.specs.Matrix.{IsUnimodular}
 use Rattle.exact_ops.specs.Operator.{Operator}

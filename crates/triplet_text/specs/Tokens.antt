@@ -21,22 +21,26 @@ bytes_of (Number run) = run
 abbrev pub Each : (ℕ → Bool) → List ℕ → Type 0
 Each passes text = AllByRecursion (λ byte. passes byte ≡ true) text
 
+-- a comma, a star or a stroke
 abbrev pub is_mark : ℕ → Bool
 is_mark byte = byte == comma || byte == star || byte == stroke
 
+-- one of x y z X Y Z
 abbrev pub is_letter : ℕ → Bool
 is_letter byte = is_x byte || is_y byte || is_z byte
 
+-- a digit or a point
 abbrev pub is_in_number : ℕ → Bool
 is_in_number byte = is_digit byte || byte == point
 
--- a sign is one of + -, a mark one of , * /, a letter one of x y z X Y Z, and a number some digits and points
+-- which tokens there are; a number is one or more digits and points
 abbrev pub IsToken : Token → Type 0
 IsToken (Sign byte) = is_sign byte ≡ true
 IsToken (Mark byte) = is_mark byte ≡ true
 IsToken (Letter byte) = is_letter byte ≡ true
 IsToken (Number run) = (0 < length run) × Each is_in_number run
 
+-- whether the first byte is a blank
 abbrev pub begins_with_blank : List ℕ → Bool
 begins_with_blank [] = false
 begins_with_blank (byte ∷ text) = is_blank byte

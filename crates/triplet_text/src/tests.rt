@@ -22,6 +22,14 @@ fn reads_triplets(rt: HostRuntime) {
         ("2 -x,-y,z", [-1, 0, 0, 0, -1, 0, 0, 0, 1], [0, 0, 0]),
         ("x-1/4,y,z-.75", SAME, [9, 0, 3]),
         ("x-y+x+y-x,1.+y+0.25,z-1/3-1/12", SAME, [0, 3, 7]),
+        ("-x-1/4,-y,z", [-1, 0, 0, 0, -1, 0, 0, 0, 1], [9, 0, 0]),
+        ("x+.5,y+0.50,z+0.25", SAME, [6, 6, 3]),
+        ("x+.750,y+1.,z", SAME, [9, 0, 0]),
+        ("0x,y,z", [0, 0, 0, 0, 1, 0, 0, 0, 1], [0, 0, 0]),
+        ("1.,y,z", [0, 0, 0, 0, 1, 0, 0, 0, 1], [0, 0, 0]),
+        ("2 * x - y,y,z", [2, -1, 0, 0, 1, 0, 0, 0, 1], [0, 0, 0]),
+        ("+.5+x,y,z", SAME, [6, 0, 0]),
+        ("X,Y,Z", SAME, [0, 0, 0]),
     ] {
         let [a, b, c] = t;
         let want = Raw::of(w, [a * TWELFTH, b * TWELFTH, c * TWELFTH]);
@@ -46,7 +54,13 @@ fn refuses_other_lines(rt: HostRuntime) {
         "1 x,y,z",
         "0.333,y,z",
         "0.1,y,z",
+        "1./2,y,z",
+        "x*2,y,z",
+        "02x,y,z",
         "1234567,y,z",
+        "0.1234,y,z",
+        "x+1/02,y,z",
+        "'# x'",
         "x,,z",
         "",
     ] {
@@ -65,6 +79,8 @@ fn lists_what_lines_say(rt: HostRuntime) -> Result<(), Fail> {
     assert_eq!(rt; list.len(), 2);
     assert_eq!(rt; Some(list.get(0)), read_triplet(b"-x,y+1/2,-z+1/2"));
     assert_eq!(rt; Some(list.get(1)), read_triplet(b"-x,-y,-z"));
+    let blanks = read_lines(rt.alloc(), &[b' '; 300])?;
+    assert_eq!(rt; blanks.len(), 0);
     Ok(())
 }
 
