@@ -1,6 +1,6 @@
 -- The text of a fraction in lowest terms.
-use Rattle.std.specs.Prelude.{◌==◌, ◌&&◌, if◌then◌else◌, ℕ, zero, suc, List, ◌∷◌, ◌++◌, ◌/◌, ◌%◌, decimal}
-use Rattle.triplet_text.specs.Bytes.{stroke}
+use Rattle.std.specs.Prelude.{◌==◌, ◌&&◌, if◌then◌else◌, ℕ, zero, suc, ℤ, pos, negsuc, unsigned_abs, List, ◌∷◌, ◌++◌, ◌/◌, ◌%◌, decimal}
+use Rattle.triplet_text.specs.Bytes.{stroke, minus_sign}
 
 -- the greatest number up to k that divides n and d
 unfoldable pub common_divisor_up_to : ℕ → ℕ → ℕ → ℕ
@@ -18,3 +18,8 @@ quotient_text p q = if q == 1 then decimal p else decimal p ++ stroke ∷ decima
 -- n over d in lowest terms
 abbrev pub fraction_text : ℕ → ℕ → List ℕ
 fraction_text n d = let g = gcd n d in quotient_text (n / g) (d / g)
+
+-- the fraction n over d, with a minus before a negative one
+abbrev pub frac_text : ℤ → ℤ → List ℕ
+frac_text (pos n) d = fraction_text n (unsigned_abs d)
+frac_text (negsuc n) d = minus_sign ∷ fraction_text (suc n) (unsigned_abs d)

@@ -1,22 +1,38 @@
-ghost use Rattle.std.specs.Prelude.{◌≡◌, ◌<◌, ◌≤◌, length};
+ghost use Rattle.std.specs.Prelude.{◌≡◌, pos, ◌<ℤ◌, ◌<◌, ◌≤◌, ◌^◌, length};
 ghost use Rattle.std.specs.Int.{IsGcd};
-ghost use Rattle.triplet_text.specs.Fractions.{quotient_text, fraction_text};
+ghost use Rattle.triplet_text.specs.Fractions.{quotient_text, fraction_text, frac_text};
 
 use crate::text::Text;
 use itoa::Buffer;
 
+/// The fraction n/d in lowest terms: `-` before a negative one, and a whole number where the denominator becomes 1.
+pub fn print_frac(n: i128, d: i128) -> Text
+    requires { pos 0 <ℤ d }
+    ensures { result ≡ frac_text n d }
+{
+    let size = lowest_terms(n.unsigned_abs(), d.unsigned_abs());
+    if n >= 0 {
+        return size;
+    }
+    let mut text = Text::new();
+    text.push(b"-");
+    text.push(size.bytes());
+    text
+}
+
 /// n over d in lowest terms.
-pub fn lowest_terms(n: u32, d: u32) -> Text
+pub fn lowest_terms(n: u128, d: u128) -> Text
     requires { 0 < d }
     ensures text { result ≡ fraction_text n d }
-    ensures short { length result ≤ 21 }
+    ensures short { length result ≤ 81 }
+    ensures small { n < 10 ^ 9 → d < 10 ^ 9 → length result ≤ 19 }
 {
     let g = greatest_common_divisor(n, d);
     quotient(n / g, d / g)
 }
 
 /// By Euclid's algorithm.
-fn greatest_common_divisor(n: u32, d: u32) -> u32
+fn greatest_common_divisor(n: u128, d: u128) -> u128
     ensures { IsGcd n d result }
 {
     let mut a = n;
@@ -29,9 +45,9 @@ fn greatest_common_divisor(n: u32, d: u32) -> u32
     a
 }
 
-fn quotient(p: u32, q: u32) -> Text
+fn quotient(p: u128, q: u128) -> Text
     ensures text { result ≡ quotient_text p q }
-    ensures short { length result ≤ 21 }
+    ensures short { length result ≤ 81 }
 {
     let mut buffer = Buffer::new();
     let mut text = Text::new();

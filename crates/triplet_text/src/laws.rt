@@ -1,8 +1,14 @@
-ghost use Rattle.std.specs.Prelude.{◌≡◌, List, ℕ};
+ghost use Rattle.std.specs.Prelude.{◌≡◌, List, ℕ, ℤ, pos, ◌<ℤ◌, ◌*ℤ◌};
 ghost use Rattle.exact_ops.specs.Operator.{Operator};
 ghost use Rattle.triplet_text.specs.Grammar.{IsTriplet};
+ghost use Rattle.triplet_text.specs.Fractions.{frac_text};
 
 /// A line is a triplet of one operator at most.
 pub fn triplet_is_unique()
     ensures { (line : List ℕ) (f g : Operator) → IsTriplet line f → IsTriplet line g → f ≡ g }
+{}
+
+/// Fractions with one value have one text.
+pub fn equal_fractions_have_one_text()
+    ensures { (n m d e : ℤ) → pos 0 <ℤ d → pos 0 <ℤ e → n *ℤ e ≡ m *ℤ d → frac_text n d ≡ frac_text m e }
 {}

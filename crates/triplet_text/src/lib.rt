@@ -13,7 +13,8 @@ mod term;
 mod text;
 mod triplet;
 
-pub use laws::triplet_is_unique;
+pub use fraction::print_frac;
+pub use laws::{equal_fractions_have_one_text, triplet_is_unique};
 pub use lines::{LineFault, read_lines};
 pub use printing::print_triplet;
 pub use text::Text;

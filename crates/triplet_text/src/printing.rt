@@ -83,5 +83,5 @@ fn constant(parts: i32) -> Text
     if parts == 0 {
         return Text::new();
     }
-    lowest_terms(parts as u32, UNIT)
+    lowest_terms(parts as u128, u128::from(UNIT))
 }
