@@ -112,3 +112,17 @@ fn prints_operators(rt: HostRuntime) -> Result<(), Fail> {
     }
     Ok(())
 }
+
+#[test]
+fn prints_fractions(rt: HostRuntime) {
+    for (n, d, want) in [
+        (0, 12, "0"),
+        (6, 12, "1/2"),
+        (-18, 12, "-3/2"),
+        (24, 12, "2"),
+        (-7, 1, "-7"),
+        (2, 1_000_000_000_000_000_000, "1/500000000000000000"),
+    ] {
+        assert_eq!(rt; print_frac(n, d).bytes(), want.as_bytes(), "{n}/{d}");
+    }
+}
