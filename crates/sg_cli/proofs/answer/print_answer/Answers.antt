@@ -1,4 +1,4 @@
-use Rattle.std.proofs.Common.{List, ℕ, Err, subst, sym, ap, ◌∙◌}
+use Rattle.std.proofs.Common.{Err, subst, ap, ◌∙◌}
 use Rattle.std.specs.Io.KnownBytes.{Appends}
 use Rattle.std.proofs.lemmas.Result.{err_from_is_err_and}
 use Rattle.sg_io.specs.Bytes.{AppendsFront}

@@ -1,6 +1,6 @@
-use Rattle.std.proofs.Common.{arith, sym, ◌∙◌, take}
+use Rattle.std.proofs.Common.{arith, ◌∙◌}
 use Rattle.std.proofs.lemmas.Result.{err_from_is_err_and}
-use Rattle.sg_cli.proofs.Printing.{printed_more, printed_front, printed_all}
+use Rattle.sg_cli.proofs.Printing.{printed_more, printed_front}
 use Rattle.sg_cli.proofs.operators.print_ops.Goals as goal
 
 pub returns-in_err-put_all-clause-err : goal.returns-in_err-put_all-clause-err
