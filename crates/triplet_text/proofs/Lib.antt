@@ -5,7 +5,7 @@ mod Ranges
 mod Values
 mod TermTexts
 mod SumTexts
-pub mod GrammarLaw
+mod GrammarLaw
 mod Components
 mod ReadBack
 mod Written
