@@ -1,11 +1,14 @@
-ghost use Rattle.std.specs.Prelude.{◌≡◌, ◌<◌, Some, IfOk, OnOk, IsErrOf, length, slice_get};
+ghost use Rattle.std.specs.Prelude.{◌≡◌, ◌<◌, ◌↔◌, ℕ, Some, IsSome, IfSome, IfOk, OnOk, IsErrOf, length, slice_get};
+ghost use Rattle.std.specs.List.{Contains};
+ghost use Rattle.lattice_algebra.specs.Operator.{Operator, product, IsInverse};
+ghost use Rattle.exact_ops.specs.declared.TheConstants.{UNIT};
 ghost use Rattle.group_closure.specs.Words.{Closes, IsUnclosed};
 ghost use Rattle.group_closure.specs.GroupList.{IsGroupList, IsGroup};
 
 use crate::MAX_OPERATORS;
 use crate::closing::{collect, generate};
 use crate::order::sort_after_first;
-use exact_ops::{Op, OpList};
+use exact_ops::{Op, OpList, compose, inverse};
 use std::alloc::Global;
 use std::marker::Model;
 
@@ -74,6 +77,53 @@ impl Group {
         ensures { slice_get self.now i ≡ Some result }
     {
         self.members[usize::from(i)]
+    }
+
+    /// The place of an operator. None exactly where it is no member.
+    pub fn find(&self, op: &Op) -> Option<u8>
+        ensures some { IsSome result ↔ Contains self.now op.now }
+        ensures place { IfSome result (λ i. slice_get self.now i ≡ Some op.now) }
+        // Each member has one place.
+        ensures only { (i : ℕ) → slice_get self.now i ≡ Some op.now → result ≡ Some i }
+    {
+        for (i, member) in self.members.iter().enumerate() {
+            if member == op {
+                return Some(i as u8);
+            }
+        }
+        None
+    }
+
+    /// The place of the member at i after the one at j, modulo the cell.
+    pub fn product(&self, i: u8, j: u8) -> u8
+        requires left { i < length self.now }
+        requires right { j < length self.now }
+        ensures within { result < length self.now }
+        ensures value { (f g : Operator) → slice_get self.now i ≡ Some f → slice_get self.now j ≡ Some g → slice_get self.now result ≡ Some (product UNIT f g) }
+    {
+        let members = &self.members;
+        let op = compose(&members[usize::from(i)], &members[usize::from(j)]).unwrap();
+        self.place_of(&op)
+    }
+
+    /// The place of the inverse of the member at i.
+    pub fn inverse_of(&self, i: u8) -> u8
+        requires { i < length self.now }
+        ensures within { result < length self.now }
+        ensures value { (f g : Operator) → slice_get self.now i ≡ Some f → slice_get self.now result ≡ Some g → IsInverse UNIT f g }
+    {
+        let members = &self.members;
+        let op = inverse(&members[usize::from(i)]).unwrap();
+        self.place_of(&op)
+    }
+
+    /// The place of a member.
+    fn place_of(&self, member: &Op) -> u8
+        requires { Contains self.now member.now }
+        ensures within { result < length self.now }
+        ensures place { slice_get self.now result ≡ Some member.now }
+    {
+        self.find(member).unwrap()
     }
 }
 
@@ -169,6 +219,60 @@ mod tests {
         assert_eq!(rt; greatest.len(), 192);
         assert_eq!(rt; row_at(&greatest, 0), Some((IDENTITY, [0, 0, 0])));
         assert_eq!(rt; row_at(&greatest, 191), Some((INVERSION, [6, 6, 0])));
+        Ok(())
+    }
+
+    fn place_of_row(group: &Group, (w, t): Row) -> Option<u8> {
+        let raw = Raw::of(w, t)?;
+        group.find(&Op::of(&raw).ok()?)
+    }
+
+    fn product_at(group: &Group, i: u8, j: u8) -> Option<u8> {
+        if u16::from(i) >= group.len() || u16::from(j) >= group.len() {
+            return None;
+        }
+        Some(group.product(i, j))
+    }
+
+    fn inverse_at(group: &Group, i: u8) -> Option<u8> {
+        if u16::from(i) >= group.len() {
+            return None;
+        }
+        Some(group.inverse_of(i))
+    }
+
+    /// P 31: the identity, -y,x-y,z+1/3 and -x+y,-x,z+2/3, the last two each the inverse of the other.
+    #[test]
+    fn finds_products_and_inverses(rt: HostRuntime) -> Result<(), Fail> {
+        let screw = ([0, -1, 0, 1, -1, 0, 0, 0, 1], [0, 0, 4]);
+        let group = Group::close(rt.alloc(), &list_of(rt.alloc(), &[screw])?)?;
+        assert_eq!(rt; group.len(), 3);
+        let screw_place = place_of_row(&group, screw);
+        assert_eq!(rt; row_at(&group, screw_place.unwrap_or(9)), Some(screw));
+        assert_eq!(rt; place_of_row(&group, (IDENTITY, [0, 0, 4])), None);
+        for (i, j, want) in [(0, 1, 1), (1, 0, 1), (1, 1, 2), (1, 2, 0), (2, 2, 1)] {
+            assert_eq!(rt; product_at(&group, i, j), Some(want), "{i} {j}");
+        }
+        for (i, want) in [(0, 0), (1, 2), (2, 1)] {
+            assert_eq!(rt; inverse_at(&group, i), Some(want), "{i}");
+        }
+        Ok(())
+    }
+
+    /// In F m -3 m -y,x,z after z,x,y is -x,z,y, and z,x,y after -y,x,z is z,-y,x.
+    #[test]
+    fn multiplies_in_order(rt: HostRuntime) -> Result<(), Fail> {
+        let list = list_of(rt.alloc(), &FACE_CENTRED_CUBIC)?;
+        let group = Group::close(rt.alloc(), &list)?;
+        let at = |w: [i32; 9]| place_of_row(&group, (w, [0, 0, 0]));
+        let four = at([0, -1, 0, 1, 0, 0, 0, 0, 1]).ok_or("no member")?;
+        let three = at([0, 0, 1, 1, 0, 0, 0, 1, 0]).ok_or("no member")?;
+        let after = at([-1, 0, 0, 0, 0, 1, 0, 1, 0]);
+        let before = at([0, 0, 1, 0, -1, 0, 1, 0, 0]);
+        assert_eq!(rt; after.is_some() && before.is_some(), true);
+        assert_eq!(rt; product_at(&group, four, three), after);
+        assert_eq!(rt; product_at(&group, three, four), before);
+        assert_eq!(rt; place_of_row(&group, (INVERSION, [6, 6, 0])), Some(191));
         Ok(())
     }
 
