@@ -8,6 +8,7 @@ mod op;
 mod op_list;
 mod raw;
 
+pub use matrix::Rotation;
 pub use op::{Op, OpFault, compose, inverse};
 pub use op_list::{NoMemory, OpList, PushFault};
 pub use raw::Raw;

@@ -74,7 +74,8 @@ impl Group {
     /// The member at place i, counted from 0.
     pub fn op(&self, i: u8) -> Op
         requires { i < length self.now }
-        ensures { slice_get self.now i ≡ Some result }
+        ensures value { slice_get self.now i ≡ Some result }
+        ensures group { IsGroup self.now }
     {
         self.members[usize::from(i)]
     }

@@ -8,3 +8,4 @@ pub mod Matrices
 pub mod Equality
 pub mod Maps
 pub mod Operators
+pub mod Powers

@@ -1,3 +1,4 @@
 pub mod Matrix
 pub mod Operator
 pub mod Map
+pub mod Powers

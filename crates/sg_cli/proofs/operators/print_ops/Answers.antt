@@ -6,11 +6,11 @@ use Rattle.sg_cli.proofs.operators.print_ops.Goals as goal
 pub returns-in_err-put_all-clause-err : goal.returns-in_err-put_all-clause-err
 returns-in_err-put_all-clause-err g c =
     let p = err_from_is_err_and c.from_residual.result c.from_residual.ensures.1 in
-    rw p.1 (printed_front _ _ _ c.args.group.now c.op.result c.bytes.result.now c.loop-i.i c.loop-i.invariant.printed c.op.ensures (c.bytes.ensures ∙ c.line_of-line.ensures) c.in_err-put_all.ensures.err)
+    rw p.1 (printed_front _ _ _ c.args.group.now c.op.result c.bytes.result.now c.loop-i.i c.loop-i.invariant.printed c.op.ensures.value (c.bytes.ensures ∙ c.line_of-line.ensures) c.in_err-put_all.ensures.err)
 
 pub loop-i-preserved : goal.loop-i-preserved
 loop-i-preserved g c = record {
-  printed = printed_more _ _ _ c.args.group.now c.op.result c.bytes.result.now c.loop-i.i c.loop-i.invariant.printed c.op.ensures (c.bytes.ensures ∙ c.line_of-line.ensures) c.in_ok-put_all.ensures.ok;
+  printed = printed_more _ _ _ c.args.group.now c.op.result c.bytes.result.now c.loop-i.i c.loop-i.invariant.printed c.op.ensures.value (c.bytes.ensures ∙ c.line_of-line.ensures) c.in_ok-put_all.ensures.ok;
   faults = omega (arith, c.in_ok-put_all.ensures.faults_later);
   wants = omega (arith, c.in_ok-put_all.ensures.wants_later);
 }

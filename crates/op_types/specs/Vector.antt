@@ -1,0 +1,27 @@
+-- What a vector stands for.
+use Rattle.std.specs.Prelude.{◌≡◌, ◌*ℤ◌}
+use Rattle.lattice_algebra.specs.Matrix.{Matrix, Column, ◌·ᶜ◌}
+use Rattle.op_types.specs.declared.vector.Vector.{Vector}
+
+abbrev pub column_in : Vector → Column
+column_in v = record { x = v.x; y = v.y; z = v.z }
+
+-- a and b are on one line through the origin: their cross product vanishes
+pub record AreParallel (a b : Column) : Type 0 where
+  pub xy : a.x *ℤ b.y ≡ a.y *ℤ b.x
+  pub yz : a.y *ℤ b.z ≡ a.z *ℤ b.y
+  pub zx : a.z *ℤ b.x ≡ a.x *ℤ b.z
+
+-- a is what M makes of some column
+abbrev pub IsImage : Matrix → Column → Type 0
+IsImage m a = (e : Column) × (a ≡ m ·ᶜ e)
+
+-- the columns of a matrix
+abbrev pub x_column_of : Matrix → Column
+x_column_of m = record { x = m.xx; y = m.yx; z = m.zx }
+
+abbrev pub y_column_of : Matrix → Column
+y_column_of m = record { x = m.xy; y = m.yy; z = m.zy }
+
+abbrev pub z_column_of : Matrix → Column
+z_column_of m = record { x = m.xz; y = m.yz; z = m.zz }

@@ -1,0 +1,24 @@
+ghost use Rattle.std.specs.Prelude.{◌<◌, ◌↔◌, IsTrue, IfSome, length, slice_get};
+ghost use Rattle.lattice_algebra.specs.Matrix.{Matrix};
+ghost use Rattle.lattice_algebra.specs.Operator.{Operator};
+ghost use Rattle.lattice_algebra.specs.Powers.{IsOrder};
+ghost use Rattle.op_types.specs.ProperPart.{IsProper, IsProperPart};
+
+use crate::cycle::cycle_of;
+use crate::handedness::{is_proper, proper_part};
+use crate::parts::Kind;
+use exact_ops::Rotation;
+use group_closure::Group;
+
+/// The kind of the operator at place i.
+pub fn kind(g: &Group, i: u8) -> Kind
+    requires { i < length g.now }
+    ensures handedness { IfSome (slice_get g.now i) (λ (f : Operator). IsTrue result.proper ↔ IsProper f.w) }
+    ensures order { IfSome (slice_get g.now i) (λ (f : Operator). (p : Matrix) → IsProperPart f.w p → IsOrder p result.order) }
+{
+    let w = Rotation::of(&g.op(i).w());
+    Kind {
+        order: cycle_of(&proper_part(&w)).order,
+        proper: is_proper(&w),
+    }
+}

@@ -1,0 +1,21 @@
+//! What kind of symmetry operation an operator is: a rotation or a rotation with the inversion, its order, its intrinsic
+//! part and its axis.
+//!
+//! International Tables A, symmetry operations. All of it comes from the matrix itself, and nothing from a table.
+#![tactic(auto)]
+
+mod axes;
+mod cycle;
+mod handedness;
+mod intrinsic_part;
+mod kinds;
+mod vector;
+
+pub mod parts;
+
+pub use axes::axis;
+pub use intrinsic_part::{Frac3, intrinsic};
+pub use kinds::kind;
+
+#[cfg(test)]
+mod tests;

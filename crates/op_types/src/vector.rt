@@ -1,0 +1,85 @@
+ghost use Rattle.std.specs.Prelude.{◌≡◌, ◌≢◌, ◌≤◌, ◌↔◌, ◌*◌, ℤ, pos, IsTrue};
+ghost use Rattle.std.specs.Int.{IsGcd};
+ghost use Rattle.lattice_algebra.specs.Matrix.{Column, coordinates, times, origin};
+ghost use Rattle.lattice_algebra.specs.Operator.{AreWithin};
+ghost use Rattle.group_closure.specs.declared.TheConstants.{MAX_OPERATORS};
+ghost use Rattle.op_types.specs.Axis.{IsDirected, HasNoDivisor};
+ghost use Rattle.op_types.specs.Vector.{column_in, AreParallel};
+
+/// A vector in whole multiples of the basis.
+#[derive(Clone, Copy, Drop)]
+pub struct Vector {
+    pub x: i32,
+    pub y: i32,
+    pub z: i32,
+}
+
+impl Vector {
+    pub fn numbers(&self) -> [i32; 3]
+        ensures { result ≡ coordinates (column_in self.now) }
+    {
+        [self.x, self.y, self.z]
+    }
+
+    pub fn is_origin(&self) -> bool
+        ensures { IsTrue result ↔ (column_in self.now ≡ origin) }
+    {
+        self.x == 0 && self.y == 0 && self.z == 0
+    }
+
+    /// Whether both are on one line through the origin.
+    pub fn is_parallel(&self, other: &Vector) -> bool
+        requires left { AreWithin (4 * MAX_OPERATORS) self.now.x self.now.y self.now.z }
+        requires right { AreWithin (4 * MAX_OPERATORS) other.now.x other.now.y other.now.z }
+        ensures { IsTrue result ↔ AreParallel (column_in self.now) (column_in other.now) }
+    {
+        self.x * other.y == self.y * other.x
+            && self.y * other.z == self.z * other.y
+            && self.z * other.x == self.x * other.z
+    }
+
+    /// Whether the first entry other than 0 is positive.
+    fn is_directed(&self) -> bool
+        ensures { IsTrue result ↔ IsDirected (column_in self.now) }
+    {
+        if self.x != 0 {
+            return self.x > 0;
+        }
+        if self.y != 0 {
+            return self.y > 0;
+        }
+        self.z > 0
+    }
+
+    /// The vector of the same line without common divisor whose first entry other than 0 is positive.
+    pub fn reduced(&self) -> Vector
+        requires some { column_in self.now ≢ origin }
+        requires within { AreWithin (4 * MAX_OPERATORS) self.now.x self.now.y self.now.z }
+        ensures same { (k : ℤ) × (k ≢ pos 0) × (column_in self.now ≡ times k (column_in result)) }
+        ensures no_divisor { HasNoDivisor (column_in result) }
+        ensures directed { IsDirected (column_in result) }
+    {
+        let rest = greatest_common_divisor(self.y.unsigned_abs(), self.z.unsigned_abs());
+        let divisor = greatest_common_divisor(self.x.unsigned_abs(), rest) as i32;
+        let divisor = if self.is_directed() { divisor } else { -divisor };
+        Vector {
+            x: self.x / divisor,
+            y: self.y / divisor,
+            z: self.z / divisor,
+        }
+    }
+}
+
+/// By Euclid's algorithm.
+fn greatest_common_divisor(n: u32, d: u32) -> u32
+    ensures { IsGcd n d result }
+{
+    let mut a = n;
+    let mut b = d;
+    while b != 0 {
+        let rest = a % b;
+        a = b;
+        b = rest;
+    }
+    a
+}
