@@ -1,2 +1,4 @@
 mod Turning
 mod Members
+mod IntrinsicParts
+mod Lines

@@ -1,11 +1,14 @@
 ghost use Rattle.std.specs.Prelude.{◌≡◌, ◌<◌, ◌≤◌, ◌*◌, ◌-◌, pos, ◌<ℤ◌, IfSome, length, slice_get};
-ghost use Rattle.lattice_algebra.specs.Matrix.{column_of, sum_of_products};
-ghost use Rattle.lattice_algebra.specs.Operator.{Operator, AreWithin};
+ghost use Rattle.lattice_algebra.specs.Matrix.{column_of, sum_of_products, ◌·ᶜ◌};
+ghost use Rattle.lattice_algebra.specs.Operator.{Operator, AreWithin, HasEntriesWithin};
 ghost use Rattle.exact_ops.specs.declared.TheConstants.{UNIT as PARTS};
+ghost use Rattle.exact_ops.specs.Fields.{matrix_in};
 ghost use Rattle.group_closure.specs.declared.TheConstants.{MAX_OPERATORS};
 ghost use Rattle.op_types.specs.Intrinsic.{IsIntrinsicPart};
+ghost use Rattle.op_types.specs.Vector.{column_in};
 
 use crate::cycle::cycle_of;
+use crate::vector::Vector;
 use exact_ops::{Rotation, UNIT};
 use group_closure::Group;
 
@@ -25,15 +28,22 @@ pub fn intrinsic(g: &Group, i: u8) -> Frac3
 {
     let op = g.op(i);
     let turn = cycle_of(&Rotation::of(&op.w()));
-    let sum = turn.sum;
-    let [x, y, z] = op.t();
     Frac3 {
-        n: [
-            dot(sum.xx, sum.xy, sum.xz, x, y, z),
-            dot(sum.yx, sum.yy, sum.yz, x, y, z),
-            dot(sum.zx, sum.zy, sum.zz, x, y, z),
-        ],
+        n: image(&turn.sum, &Vector::of(&op.t())).numbers(),
         d: UNIT as i32 * i32::from(turn.order),
+    }
+}
+
+/// What a matrix makes of a vector.
+fn image(m: &Rotation, v: &Vector) -> Vector
+    requires left { HasEntriesWithin (4 * MAX_OPERATORS) (matrix_in m.now) }
+    requires right { AreWithin (PARTS - 1) v.now.x v.now.y v.now.z }
+    ensures { column_in result ≡ matrix_in m.now ·ᶜ column_in v.now }
+{
+    Vector {
+        x: dot(m.xx, m.xy, m.xz, v.x, v.y, v.z),
+        y: dot(m.yx, m.yy, m.yz, v.x, v.y, v.z),
+        z: dot(m.zx, m.zy, m.zz, v.x, v.y, v.z),
     }
 }
 

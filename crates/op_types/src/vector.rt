@@ -1,6 +1,6 @@
 ghost use Rattle.std.specs.Prelude.{◌≡◌, ◌≢◌, ◌≤◌, ◌↔◌, ◌*◌, ℤ, pos, IsTrue};
 ghost use Rattle.std.specs.Int.{IsGcd};
-ghost use Rattle.lattice_algebra.specs.Matrix.{Column, coordinates, times, origin};
+ghost use Rattle.lattice_algebra.specs.Matrix.{column_of, coordinates, times, origin};
 ghost use Rattle.lattice_algebra.specs.Operator.{AreWithin};
 ghost use Rattle.group_closure.specs.declared.TheConstants.{MAX_OPERATORS};
 ghost use Rattle.op_types.specs.Axis.{IsDirected, HasNoDivisor};
@@ -15,6 +15,16 @@ pub struct Vector {
 }
 
 impl Vector {
+    pub fn of(numbers: &[i32; 3]) -> Vector
+        ensures { column_in result ≡ column_of numbers.now }
+    {
+        Vector {
+            x: numbers[0],
+            y: numbers[1],
+            z: numbers[2],
+        }
+    }
+
     pub fn numbers(&self) -> [i32; 3]
         ensures { result ≡ coordinates (column_in self.now) }
     {

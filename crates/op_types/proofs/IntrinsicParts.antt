@@ -1,0 +1,24 @@
+-- The sum of the powers of a matrix at a translation, over the parts of a cell times the order, is the intrinsic part.
+use Rattle.std.proofs.Common.{◌≡◌, ℕ, ◌*◌, ◌-◌, ◌≤◌, ℤ, pos, ◌*ℤ◌, ap, ap₂, sym, subst, ◌∙◌, arith, w32, to_z, of_z}
+use Rattle.std.proofs.lemmas.Int.{ints}
+use Rattle.lattice_algebra.specs.Matrix.{Matrix, Column, times, ◌·ᶜ◌}
+use Rattle.lattice_algebra.specs.Operator.{Operator, AreWithin}
+use Rattle.lattice_algebra.specs.Powers.{IsOrder, sum_of_powers}
+use Rattle.exact_ops.specs.Narrow.{IsNarrow}
+use Rattle.exact_ops.specs.declared.TheConstants.{UNIT}
+use Rattle.exact_ops.proofs.Narrow.{AreWithin-parts}
+use Rattle.group_closure.specs.declared.TheConstants.{MAX_OPERATORS}
+use Rattle.op_types.specs.Intrinsic.{IsIntrinsicPart}
+
+pub denominator : (k : ℕ) (x : ℤ) → x ≡ pos k → k ≤ 2 * MAX_OPERATORS → to_z w32 (of_z w32 (pos UNIT *ℤ to_z w32 (of_z w32 x))) ≡ pos (UNIT * k)
+denominator k x e l = omega (arith, ints)
+
+pub intrinsic_part : (f : Operator) (w s : Matrix) (n t : Column) (k : ℕ) (d : ℤ) → w ≡ f.w → t ≡ f.t → IsOrder w k → s ≡ sum_of_powers w k → n ≡ s ·ᶜ t → d ≡ pos (UNIT * k) → IsIntrinsicPart f n d
+intrinsic_part f w s n t k d e q o p r h = record {
+  order = k;
+  is_order = subst (λ m. IsOrder m k) e o;
+  equal = ap₂ (λ a c. times a c) (sym h) (r ∙ ap₂ (λ m c. m ·ᶜ c) (p ∙ ap (λ m. sum_of_powers m k) e) q);
+}
+
+pub in_cell : (f : Operator) (t : Column) → IsNarrow f → t ≡ f.t → AreWithin (UNIT - 1) t.x t.y t.z
+in_cell f t n e = subst (λ (c : Column). AreWithin (UNIT - 1) c.x c.y c.z) (sym e) (AreWithin-parts f.t n.is_operator.in_cell)
