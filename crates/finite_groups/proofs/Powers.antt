@@ -72,10 +72,10 @@ module _ (F : Group) where
       next d =
           elim (cases_Bool (list_any (eq (power x (suc n))) (powers x (suc n)))) [
             | inl e ↦ inl (
-              let r = which_power x (power x (suc n)) (suc n) (members.has_back eq same (power x (suc n)) (powers x (suc n)) e) in
-              let b = difference r.0 (suc n) r.1 in
-              returns_by x r.0 b.0 (suc n) v b.1 r.2
-            )
+                let r = which_power x (power x (suc n)) (suc n) (members.has_back eq same (power x (suc n)) (powers x (suc n)) e) in
+                let b = difference r.0 (suc n) r.1 in
+                returns_by x r.0 b.0 (suc n) v b.1 r.2
+                )
             | inr e ↦ inr (members.distinct-cons eq same (power x (suc n)) (powers x (suc n)) (λ c. false≢true (sym e ∙ members.has eq same (power x (suc n)) (powers x (suc n)) c)) d)
           ]
 

@@ -88,7 +88,7 @@ value_fits w b r e h t = fits_signed_from_abs w (value r e) (lt_of_le_of_lt (val
 back_of : (w : Width) (b : List ℕ) (r : List ℤ) (e : Expr) → IsWithin b r → T (steps_below (2 ^ hbits w) b e) → machine w r e ≡ value r e → back w (machine w r e) ≡ value r e
 back_of w b r e h t p = ap (back w) p ∙ to_z-of_z w (value r e) (value_fits w b r e h t)
 
-exact : (w : Width) (b : List ℕ) (r : List ℤ) (e : Expr) → IsWithin b r → T (steps_below (2 ^ hbits w) b e) → machine w r e ≡ value r e
+pub exact : (w : Width) (b : List ℕ) (r : List ℤ) (e : Expr) → IsWithin b r → T (steps_below (2 ^ hbits w) b e) → machine w r e ≡ value r e
 exact w b r (var v) h t = refl
 exact w b r (con c) h t = refl
 exact w b r (x ⊕ y) h t =

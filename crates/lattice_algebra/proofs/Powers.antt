@@ -1,11 +1,11 @@
 -- The laws of powers: their sum, what they fix, and the powers of the opposite matrix.
-use Rattle.std.proofs.Common.{◌≡◌, ◌++◌, ◌∷◌, [], ◌⊎◌, inl, inr, ⊎_elim, ℕ, zero, suc, ◌+◌, ◌*◌, ◌<◌, ◌≤◌, ℤ, pos, negsuc, ◌+ℤ◌, ◌*ℤ◌, unsigned_abs, ap, ap₂, sym, ◌∙◌, refl, arith, add-one}
+use Rattle.std.proofs.Common.{◌≡◌, ◌++◌, ◌∷◌, ◌⊎◌, inl, inr, ⊎_elim, ℕ, zero, suc, ◌+◌, ◌≤◌, ℤ, pos, negsuc, ◌+ℤ◌, ◌*ℤ◌, unsigned_abs, ap, ap₂, sym, ◌∙◌, refl, arith, add-one}
 use Rattle.std.proofs.lemmas.Int.{ints}
-use Rattle.lattice_algebra.specs.Matrix.{Matrix, Column, entries, coordinates, ◌·◌, ◌·ᶜ◌, ◌+ᶜ◌, ◌+ᵐ◌, times, scaled, identity, origin, no_matrix}
-use Rattle.lattice_algebra.specs.Operator.{AreWithin, HasEntriesWithin}
+use Rattle.lattice_algebra.specs.Matrix.{Matrix, Column, entries, coordinates, ◌·◌, ◌·ᶜ◌, ◌+ᶜ◌, ◌+ᵐ◌, times, scaled, identity, no_matrix}
+use Rattle.lattice_algebra.specs.Operator.{HasEntriesWithin}
 use Rattle.lattice_algebra.specs.Powers.{power, sum_of_powers}
-use Rattle.lattice_algebra.proofs.Ring.{var, con, ◌⊕◌, ◌⊗◌, ring}
-use Rattle.lattice_algebra.proofs.MatrixRing.{matrix_at, column_at, ◌·ˢ◌, ◌·ˢᶜ◌, ◌+ˢ◌, ◌+ˢᶜ◌, sym_scaled, sym_times, sym_identity, sym_origin, sym_nothing, matrix_ring, column_ring}
+use Rattle.lattice_algebra.proofs.Ring.{var, con, ◌⊕◌, ◌⊗◌}
+use Rattle.lattice_algebra.proofs.MatrixRing.{matrix_at, column_at, ◌·ˢ◌, ◌·ˢᶜ◌, ◌+ˢ◌, ◌+ˢᶜ◌, sym_scaled, sym_times, sym_identity, sym_nothing, matrix_ring, column_ring}
 use Rattle.lattice_algebra.proofs.Matrices.{·_assoc, ·-identity, identity-·, ·ᶜ_assoc}
 use Rattle.lattice_algebra.proofs.Numbers.{abs_add}
 
@@ -159,7 +159,7 @@ power-opposite_twice w k e =
     let v = scaled (negsuc 0) w in
     ⊎_elim (λ p. inl (p ∙ e))
     (λ p. inr (
-      power-add v k k ∙ ap₂ (λ m n. m · n) (p ∙ ap (scaled (negsuc 0)) e) (p ∙ ap (scaled (negsuc 0)) e) ∙ scaled-· (negsuc 0) (negsuc 0) identity identity ∙ one_scaled (identity · identity) ∙ identity-· identity
+    power-add v k k ∙ ap₂ (λ m n. m · n) (p ∙ ap (scaled (negsuc 0)) e) (p ∙ ap (scaled (negsuc 0)) e) ∙ scaled-· (negsuc 0) (negsuc 0) identity identity ∙ one_scaled (identity · identity) ∙ identity-· identity
     ))
     (power-opposite w k)
 

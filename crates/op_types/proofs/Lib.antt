@@ -2,3 +2,5 @@ mod Turning
 mod Members
 mod IntrinsicParts
 mod Lines
+mod Divisors
+mod FixedColumns

@@ -81,3 +81,9 @@ small_proper members f i w p g e q h =
 
 pub small_member : (members : List Operator) (f : Operator) (i : ℕ) (w : Matrix) → IsGroup members → slice_get members i ≡ Some f → w ≡ f.w → HasSmallPowers w
 small_member members f i w g e q = subst HasSmallPowers (sym q) (small_powers members f g (contains_at members f i e))
+
+-- a matrix has one proper part
+pub same_part : (f : Operator) (w p q : Matrix) → w ≡ f.w → IsProperPart w p → IsProperPart f.w q → p ≡ q
+same_part f w p q e h k =
+    let g : IsProperPart f.w p = subst (λ m. IsProperPart m p) e h in
+    ⊎_elim (λ y. g.same y ∙ sym (k.same y)) (λ n. g.opposite_of n ∙ sym (k.opposite_of n)) (proper_or_not (det f.w))

@@ -1,6 +1,6 @@
 -- What a vector stands for.
-use Rattle.std.specs.Prelude.{◌≡◌, ◌*ℤ◌}
-use Rattle.lattice_algebra.specs.Matrix.{Matrix, Column, ◌·ᶜ◌}
+use Rattle.std.specs.Prelude.{◌≡◌, ℤ, ◌*ℤ◌}
+use Rattle.lattice_algebra.specs.Matrix.{Matrix, Column, ◌·ᶜ◌, times}
 use Rattle.op_types.specs.declared.vector.Vector.{Vector}
 
 abbrev pub column_in : Vector → Column
@@ -11,6 +11,10 @@ pub record AreParallel (a b : Column) : Type 0 where
   pub xy : a.x *ℤ b.y ≡ a.y *ℤ b.x
   pub yz : a.y *ℤ b.z ≡ a.z *ℤ b.y
   pub zx : a.z *ℤ b.x ≡ a.x *ℤ b.z
+
+-- each entry of c is a whole multiple of g
+abbrev pub Divides : ℤ → Column → Type 0
+Divides g c = (b : Column) × (c ≡ times g b)
 
 -- a is what M makes of some column
 abbrev pub IsImage : Matrix → Column → Type 0

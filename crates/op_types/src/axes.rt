@@ -22,7 +22,10 @@ pub fn axis(g: &Group, i: u8) -> Option<[i32; 3]>
     let w = Rotation::of(&g.op(i).w());
     let turn = cycle_of(&proper_part(&w));
     let along = some_column(&turn.sum);
-    if along.is_origin() || !has_columns_along(&turn.sum, &along) {
+    if along.is_origin() {
+        return None;
+    }
+    if !has_columns_along(&turn.sum, &along) {
         return None;
     }
     Some(along.reduced().numbers())
@@ -52,9 +55,13 @@ fn has_columns_along(m: &Rotation, along: &Vector) -> bool
     requires right { AreWithin (4 * MAX_OPERATORS) along.now.x along.now.y along.now.z }
     ensures { IsTrue result ↔ ((e : Column) → AreParallel (column_in along.now) (matrix_in m.now ·ᶜ e)) }
 {
-    along.is_parallel(&x_column(m))
-        && along.is_parallel(&y_column(m))
-        && along.is_parallel(&z_column(m))
+    if !along.is_parallel(&x_column(m)) {
+        return false;
+    }
+    if !along.is_parallel(&y_column(m)) {
+        return false;
+    }
+    along.is_parallel(&z_column(m))
 }
 
 fn x_column(m: &Rotation) -> Vector

@@ -9,9 +9,8 @@ mod cycle;
 mod handedness;
 mod intrinsic_part;
 mod kinds;
-mod vector;
-
 pub mod parts;
+mod vector;
 
 pub use axes::axis;
 pub use intrinsic_part::{Frac3, intrinsic};

@@ -1,0 +1,167 @@
+-- The columns that a matrix of finite order fixes are those that the columns of the sum of its powers span.
+use Rattle.std.proofs.Common.{◌≡◌, ◌≢◌, ◌⊎◌, inl, inr, ⊎_elim, ◌++◌, ◌∷◌, [], ℕ, zero, suc, ◌<◌, ◌≤◌, ℤ, pos, negsuc, ◌+ℤ◌, ◌*ℤ◌, ◌<ℤ◌, neg_ℤ, ap, ap₂, sym, subst, ◌∙◌, refl, arith}
+use Rattle.std.proofs.lemmas.Int.{ints}
+use Rattle.lattice_algebra.specs.Matrix.{Matrix, Column, coordinates, entries, ◌·◌, ◌·ᶜ◌, times, origin, identity, no_matrix}
+use Rattle.lattice_algebra.specs.Powers.{power, sum_of_powers, IsOrder}
+use Rattle.lattice_algebra.proofs.Ring.{Expr, Step, var, con, ◌⊕◌, ◌⊖◌, ◌⊗◌, ring, ring_from}
+use Rattle.lattice_algebra.proofs.MatrixRing.{matrix_at, column_at, ◌·ˢᶜ◌, sym_times, sym_nothing, sym_origin, column_ring}
+use Rattle.lattice_algebra.proofs.Matrices.{·ᶜ_assoc}
+use Rattle.lattice_algebra.proofs.Columns.{cancel_column}
+use Rattle.lattice_algebra.proofs.Numbers.{cancel_number}
+use Rattle.lattice_algebra.proofs.Powers.{·-sum_of_powers, sum_of_powers-fixed}
+use Rattle.op_types.specs.Axis.{IsMultiple, IsAlong, IsLine, IsAxis, IsDirected, HasNoDivisor}
+use Rattle.op_types.specs.Vector.{AreParallel, IsImage}
+
+abbrev known : Expr → Expr → Expr → Step
+known k a b = record { factor = k; left = a; right = b }
+
+-- ---- factors that are not 0
+
+zero_or_other : (x : ℤ) → (x ≡ pos 0) ⊎ (x ≢ pos 0)
+zero_or_other (pos zero) = inl refl
+zero_or_other (pos (suc n)) = inr (λ e. omega (arith, ints, e))
+zero_or_other (negsuc n) = inr (λ e. omega (arith, ints, e))
+
+cancel : (k x y : ℤ) → k ≢ pos 0 → k *ℤ x ≡ k *ℤ y → x ≡ y
+cancel (pos zero) x y h e = absurd (h refl)
+cancel (pos (suc n)) x y h e = cancel_number (pos (suc n)) x y (omega (arith, ints)) e
+cancel (negsuc n) x y h e = cancel_number (pos (suc n)) x y (omega (arith, ints)) (ring_from (negsuc n ∷ pos (suc n) ∷ x ∷ y ∷ []) (var 1 ⊗ var 2) (var 1 ⊗ var 3) (known (con (negsuc 0)) (var 0 ⊗ var 2) (var 0 ⊗ var 3) ∷ known (var 2 ⊖ var 3) (var 0 ⊕ var 1) (con (pos 0)) ∷ []) (e, (omega (arith, ints), tt)) tt)
+
+pub cancel_times : (k : ℤ) (u v : Column) → k ≢ pos 0 → times k u ≡ times k v → u ≡ v
+unfolding times
+cancel_times k u v h e = λ i. record {
+  x = cancel k u.x v.x h (ap (λ (c : Column). c.x) e) i;
+  y = cancel k u.y v.y h (ap (λ (c : Column). c.y) e) i;
+  z = cancel k u.z v.z h (ap (λ (c : Column). c.z) e) i;
+}
+
+-- ---- linear facts
+
+nothing_image : (c : Column) (k : ℤ) → no_matrix ·ᶜ c ≡ times k origin
+unfolding ◌·ᶜ◌ times
+nothing_image c k = column_ring (k ∷ coordinates c) (sym_nothing ·ˢᶜ column_at 1) (sym_times (var 0) sym_origin) tt
+
+times_origin : (k : ℤ) → times k origin ≡ origin
+unfolding times
+times_origin k = column_ring (k ∷ []) (sym_times (var 0) sym_origin) sym_origin tt
+
+·ᶜ-times : (m : Matrix) (k : ℤ) (c : Column) → m ·ᶜ times k c ≡ times k (m ·ᶜ c)
+unfolding ◌·ᶜ◌ times
+·ᶜ-times m k c =
+    let x = matrix_at 1 in
+    let v = column_at 10 in
+    column_ring (k ∷ (entries m ++ coordinates c)) (x ·ˢᶜ sym_times (var 0) v) (sym_times (var 0) (x ·ˢᶜ v)) tt
+
+nested : (k d : ℤ) (b : Column) → times k (times d b) ≡ times (k *ℤ d) b
+unfolding times
+nested k d b = column_ring (k ∷ d ∷ coordinates b) (sym_times (var 0) (sym_times (var 1) (column_at 2))) (sym_times (var 0 ⊗ var 1) (column_at 2)) tt
+
+-- a multiple of k a is a multiple of a
+multiple_part : (a c v : Column) (k : ℤ) → c ≡ times k a → IsMultiple c v → IsMultiple a v
+multiple_part a c v k e h = (h.0, h.1 *ℤ k, h.2, h.3 ∙ ap (times h.1) e ∙ nested h.1 k a)
+
+parallel_entry : (k a b u v : ℤ) → k ≢ pos 0 → a *ℤ (k *ℤ v) ≡ b *ℤ (k *ℤ u) → a *ℤ v ≡ b *ℤ u
+parallel_entry k a b u v some e = cancel k (a *ℤ v) (b *ℤ u) some (ring_from (k ∷ a ∷ b ∷ u ∷ v ∷ []) (var 0 ⊗ (var 1 ⊗ var 4)) (var 0 ⊗ (var 2 ⊗ var 3)) (known (con (pos 1)) (var 1 ⊗ (var 0 ⊗ var 4)) (var 2 ⊗ (var 0 ⊗ var 3)) ∷ []) (e, tt) tt)
+
+parallel_cancel : (k : ℤ) (a c : Column) → k ≢ pos 0 → AreParallel a (times k c) → AreParallel a c
+unfolding times
+parallel_cancel k a c some p = record {
+  xy = parallel_entry k a.x a.y c.x c.y some p.xy;
+  yz = parallel_entry k a.y a.z c.y c.z some p.yz;
+  zx = parallel_entry k a.z a.x c.z c.x some p.zx;
+}
+
+cross_times : (m k n l u w v t a b : ℤ) → m *ℤ u ≡ k *ℤ a → m *ℤ w ≡ k *ℤ b → n *ℤ v ≡ l *ℤ a → n *ℤ t ≡ l *ℤ b → n *ℤ (m *ℤ (u *ℤ t)) ≡ n *ℤ (m *ℤ (w *ℤ v))
+cross_times m k n l u w v t a b eu ew ev et =
+    let M = var 0 in
+    let K = var 1 in
+    let N = var 2 in
+    let L = var 3 in
+    let U = var 4 in
+    let W = var 5 in
+    let V = var 6 in
+    let T = var 7 in
+    let A = var 8 in
+    let B = var 9 in
+    ring_from (m ∷ k ∷ n ∷ l ∷ u ∷ w ∷ v ∷ t ∷ a ∷ b ∷ []) (N ⊗ (M ⊗ (U ⊗ T))) (N ⊗ (M ⊗ (W ⊗ V)))
+    (known (N ⊗ T) (M ⊗ U) (K ⊗ A) ∷ known (K ⊗ A) (N ⊗ T) (L ⊗ B) ∷ known (con (negsuc 0) ⊗ (N ⊗ V)) (M ⊗ W) (K ⊗ B) ∷ known (con (negsuc 0) ⊗ (K ⊗ B)) (N ⊗ V) (L ⊗ A) ∷ []) (eu, (et, (ew, (ev, tt)))) tt
+
+-- ---- multiples
+
+-- a column on one line with one that is not the origin is a multiple of it
+pub multiple_of : (a c : Column) → a ≢ origin → AreParallel a c → IsMultiple a c
+unfolding times
+multiple_of a c some p =
+    ⊎_elim (λ zx. ⊎_elim (λ zy. ⊎_elim (λ zz. absurd (some (λ i. record { x = zx i; y = zy i; z = zz i })))
+    (λ n. (a.z, c.z, n, λ i. record { x = (p.zx ∙ own a.x c.z) i; y = (sym p.yz ∙ own a.y c.z) i; z = own a.z c.z i })) (zero_or_other a.z))
+    (λ n. (a.y, c.y, n, λ i. record { x = (sym p.xy ∙ own a.x c.y) i; y = own a.y c.y i; z = (p.yz ∙ own a.z c.y) i })) (zero_or_other a.y))
+    (λ n. (a.x, c.x, n, λ i. record { x = own a.x c.x i; y = (p.xy ∙ own a.y c.x) i; z = (sym p.zx ∙ own a.z c.x) i })) (zero_or_other a.x)
+  where
+    own : (u v : ℤ) → u *ℤ v ≡ v *ℤ u
+    own u v = ring (u ∷ v ∷ []) (var 0 ⊗ var 1) (var 1 ⊗ var 0) tt
+
+-- multiples of one column are on one line
+pub multiples_parallel : (a u v : Column) → IsMultiple a u → IsMultiple a v → AreParallel u v
+unfolding times
+multiples_parallel a u v p q =
+    let e = p.3 in
+    let f = q.3 in
+    let x = λ (c : Column). c.x in
+    let y = λ (c : Column). c.y in
+    let z = λ (c : Column). c.z in
+    record {
+      xy = cross p.0 p.1 q.0 q.1 u.x u.y v.x v.y a.x a.y p.2 q.2 (ap x e) (ap y e) (ap x f) (ap y f);
+      yz = cross p.0 p.1 q.0 q.1 u.y u.z v.y v.z a.y a.z p.2 q.2 (ap y e) (ap z e) (ap y f) (ap z f);
+      zx = cross p.0 p.1 q.0 q.1 u.z u.x v.z v.x a.z a.x p.2 q.2 (ap z e) (ap x e) (ap z f) (ap x f);
+    }
+  where
+    cross : (m k n l u w v t a b : ℤ) → m ≢ pos 0 → n ≢ pos 0 → m *ℤ u ≡ k *ℤ a → m *ℤ w ≡ k *ℤ b → n *ℤ v ≡ l *ℤ a → n *ℤ t ≡ l *ℤ b → u *ℤ t ≡ w *ℤ v
+    cross m k n l u w v t a b hm hn eu ew ev et = cancel m (u *ℤ t) (w *ℤ v) hm (cancel n (m *ℤ (u *ℤ t)) (m *ℤ (w *ℤ v)) hn (cross_times m k n l u w v t a b eu ew ev et))
+
+-- ---- what is fixed
+
+-- the image of any column under the sum of the powers is fixed
+pub image_fixed : (p s : Matrix) (k : ℕ) (a : Column) → IsOrder p k → s ≡ sum_of_powers p k → IsImage s a → p ·ᶜ a ≡ a
+image_fixed p s k a o e h =
+    let f : p · s ≡ s = ap (λ m. p · m) e ∙ ·-sum_of_powers p k o.returns ∙ sym e in
+    ap (λ c. p ·ᶜ c) h.1 ∙ sym (·ᶜ_assoc p s h.0) ∙ ap (λ m. m ·ᶜ h.0) f ∙ sym h.1
+
+-- a fixed column is k times itself under the sum
+pub fixed_image : (p s : Matrix) (k : ℕ) (c : Column) → s ≡ sum_of_powers p k → p ·ᶜ c ≡ c → s ·ᶜ c ≡ times (pos k) c
+fixed_image p s k c e f = ap (λ m. m ·ᶜ c) e ∙ sum_of_powers-fixed p k c f
+
+some_order : (k : ℕ) → 0 < k → pos k ≢ pos 0
+some_order k l e = omega (arith, ints, e)
+
+-- where all images are on one line with a, so is each fixed column
+pub fixed_parallel : (p s : Matrix) (k : ℕ) (a c : Column) → IsOrder p k → s ≡ sum_of_powers p k → ((e : Column) → AreParallel a (s ·ᶜ e)) → p ·ᶜ c ≡ c → AreParallel a c
+fixed_parallel p s k a c o e all f = parallel_cancel (pos k) a c (some_order k o.positive) (subst (AreParallel a) (fixed_image p s k c e f) (all c))
+
+-- ---- the axis
+
+module _ (p s : Matrix) (k : ℕ) (o : IsOrder p k) (e : s ≡ sum_of_powers p k) where
+  -- a column of the sum, other than the origin and on one line with each
+  pub along_by : (a : Column) → a ≢ origin → IsImage s a → ((e : Column) → AreParallel a (s ·ᶜ e)) → IsAlong p a
+  along_by a some h all = record { some = some; fixed = image_fixed p s k a o e h; all = λ c f. multiple_of a c some (fixed_parallel p s k a c o e all f) }
+
+  -- no line where the sum is nothing
+  pub no_line_of_nothing : s ≡ no_matrix → IsLine p → ⊥
+  no_line_of_nothing z l =
+      let a = l.0 in
+      l.1.some (cancel_times (pos k) a origin (some_order k o.positive) (sym (fixed_image p s k a e l.1.fixed) ∙ ap (λ m. m ·ᶜ a) z ∙ nothing_image a (pos k)))
+
+  -- on a line all images of the sum are on one line with each
+  pub line_parallel : IsLine p → (a : Column) → IsImage s a → (c : Column) → AreParallel a (s ·ᶜ c)
+  line_parallel l a h c = multiples_parallel l.0 a (s ·ᶜ c) (l.1.all a (image_fixed p s k a o e h)) (l.1.all (s ·ᶜ c) (image_fixed p s k (s ·ᶜ c) o e (c, refl)))
+
+-- what is left of a column of the axis when it is divided
+pub reduced_axis : (p : Matrix) (c a : Column) (k : ℤ) → IsAlong p c → k ≢ pos 0 → c ≡ times k a → HasNoDivisor a → IsDirected a → IsAxis p a
+reduced_axis p c a k l some e n d = record {
+  along = record {
+    some = λ z. l.some (e ∙ ap (times k) z ∙ times_origin k);
+    fixed = cancel_times k (p ·ᶜ a) a some (sym (·ᶜ-times p k a) ∙ ap (λ v. p ·ᶜ v) (sym e) ∙ l.fixed ∙ e);
+    all = λ v f. multiple_part a c v k e (l.all v f);
+  };
+  no_divisor = n;
+  directed = d;
+}
