@@ -1,12 +1,11 @@
 -- The columns that a matrix of finite order fixes are those that the columns of the sum of its powers span.
-use Rattle.std.proofs.Common.{◌≡◌, ◌≢◌, ◌⊎◌, inl, inr, ⊎_elim, ◌++◌, ◌∷◌, [], ℕ, zero, suc, ◌<◌, ◌≤◌, ℤ, pos, negsuc, ◌+ℤ◌, ◌*ℤ◌, ◌<ℤ◌, neg_ℤ, ap, ap₂, sym, subst, ◌∙◌, refl, arith}
+use Rattle.std.proofs.Common.{◌≡◌, ◌≢◌, ◌⊎◌, inl, inr, ⊎_elim, ◌++◌, ◌∷◌, [], ℕ, zero, suc, ◌<◌, ℤ, pos, negsuc, ◌*ℤ◌, ap, sym, subst, ◌∙◌, refl, arith}
 use Rattle.std.proofs.lemmas.Int.{ints}
-use Rattle.lattice_algebra.specs.Matrix.{Matrix, Column, coordinates, entries, ◌·◌, ◌·ᶜ◌, times, origin, identity, no_matrix}
-use Rattle.lattice_algebra.specs.Powers.{power, sum_of_powers, IsOrder}
+use Rattle.lattice_algebra.specs.Matrix.{Matrix, Column, coordinates, entries, ◌·◌, ◌·ᶜ◌, times, origin, no_matrix}
+use Rattle.lattice_algebra.specs.Powers.{sum_of_powers, IsOrder}
 use Rattle.lattice_algebra.proofs.Ring.{Expr, Step, var, con, ◌⊕◌, ◌⊖◌, ◌⊗◌, ring, ring_from}
 use Rattle.lattice_algebra.proofs.MatrixRing.{matrix_at, column_at, ◌·ˢᶜ◌, sym_times, sym_nothing, sym_origin, column_ring}
 use Rattle.lattice_algebra.proofs.Matrices.{·ᶜ_assoc}
-use Rattle.lattice_algebra.proofs.Columns.{cancel_column}
 use Rattle.lattice_algebra.proofs.Numbers.{cancel_number}
 use Rattle.lattice_algebra.proofs.Powers.{·-sum_of_powers, sum_of_powers-fixed}
 use Rattle.op_types.specs.Axis.{IsMultiple, IsAlong, IsLine, IsAxis, IsDirected, HasNoDivisor}

@@ -1,10 +1,8 @@
 -- Columns on one line through the origin.
-use Rattle.std.proofs.Common.{◌≡◌, ◌≢◌, ◌⊎◌, inl, inr, ⊎_elim, ◌++◌, ◌∷◌, [], ℕ, zero, suc, ◌*◌, ◌<◌, ◌≤◌, ℤ, pos, negsuc, ◌+ℤ◌, ◌*ℤ◌, ◌<ℤ◌, unsigned_abs, ap, ap₂, sym, subst, ◌∙◌, refl, arith}
-use Rattle.std.proofs.lemmas.Int.{ints}
-use Rattle.lattice_algebra.specs.Matrix.{Matrix, Column, coordinates, entries, ◌·ᶜ◌, times, origin, no_matrix}
-use Rattle.lattice_algebra.proofs.Ring.{Expr, Step, var, con, ◌⊕◌, ◌⊖◌, ◌⊗◌, ring, ring_from}
-use Rattle.lattice_algebra.proofs.MatrixRing.{matrix_at, column_at, ◌·ˢᶜ◌, sym_times, column_ring}
-use Rattle.op_types.specs.Axis.{IsMultiple, IsAlong, IsLine}
+use Rattle.std.proofs.Common.{◌≡◌, ◌∷◌, [], ℤ, pos, ◌+ℤ◌, ◌*ℤ◌, sym, subst, ◌∙◌}
+use Rattle.lattice_algebra.specs.Matrix.{Matrix, Column, entries, ◌·ᶜ◌}
+use Rattle.lattice_algebra.proofs.Ring.{Expr, Step, var, con, ◌⊕◌, ◌⊗◌, ring_from}
+use Rattle.lattice_algebra.proofs.MatrixRing.{matrix_at, ◌·ˢᶜ◌, column_ring}
 use Rattle.op_types.specs.Vector.{AreParallel, IsImage, x_column_of, y_column_of, z_column_of}
 
 -- ---- the columns of a matrix are the images of three columns

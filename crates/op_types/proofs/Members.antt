@@ -1,5 +1,5 @@
 -- The matrices of the members of a group, and their opposites, have small powers that return.
-use Rattle.std.proofs.Common.{◌≡◌, ℕ, zero, suc, ◌+◌, ◌*◌, ◌<◌, ◌≤◌, List, length, inl, inr, ⊎_elim, sym, ap, subst, ◌∙◌, refl, arith, Contains, Some, slice_get, ℤ, pos, negsuc, ◌<ℤ◌, ◌⊎◌}
+use Rattle.std.proofs.Common.{◌≡◌, ℕ, zero, suc, ◌+◌, List, inl, inr, ⊎_elim, sym, ap, subst, ◌∙◌, refl, arith, Contains, Some, slice_get, ℤ, pos, negsuc, ◌<ℤ◌, ◌⊎◌}
 use Rattle.std.proofs.lemmas.Int.{ints}
 use Rattle.std.proofs.lemmas.List.Elements.{All-contains}
 use Rattle.lattice_algebra.specs.Matrix.{Matrix, det, ◌·◌}
@@ -9,7 +9,6 @@ use Rattle.lattice_algebra.proofs.Powers.{power-opposite, power-opposite_twice, 
 use Rattle.finite_groups.proofs.Powers as powers
 use Rattle.exact_ops.specs.Narrow.{IsNarrow}
 use Rattle.exact_ops.specs.declared.TheConstants.{UNIT}
-use Rattle.group_closure.specs.declared.TheConstants.{MAX_OPERATORS}
 use Rattle.group_closure.specs.GroupList.{IsGroup}
 use Rattle.group_closure.proofs.Bundle.{cell_operators}
 use Rattle.group_closure.proofs.Lists.{closed_list}

@@ -1,10 +1,10 @@
 -- A matrix that is multiplied until a power is the identity.
-use Rattle.std.proofs.Common.{◌≡◌, ◌≢◌, ℕ, ◌+◌, ◌*◌, ◌<◌, ◌≤◌, ◌⊎◌, inl, inr, Bool, true, false, IsTrue, sym, ap, ap₂, ◌∙◌, subst, arith, ⊎_elim}
-use Rattle.std.proofs.lemmas.Bool.{true≢false, cases_lt}
+use Rattle.std.proofs.Common.{◌≡◌, ◌≢◌, ℕ, ◌+◌, ◌*◌, ◌<◌, ◌≤◌, ◌⊎◌, inl, inr, sym, ap, ap₂, ◌∙◌, subst, arith, ⊎_elim}
+use Rattle.std.proofs.lemmas.Bool.{cases_lt}
 use Rattle.lattice_algebra.specs.Matrix.{Matrix, ◌·◌, ◌+ᵐ◌, identity, no_matrix}
 use Rattle.lattice_algebra.specs.Operator.{HasEntriesWithin}
 use Rattle.lattice_algebra.specs.Powers.{power, sum_of_powers, IsOrder}
-use Rattle.lattice_algebra.proofs.Powers.{power-zero, power-one, power-more, sum_of_powers-zero, sum_of_powers-more, within-+ᵐ}
+use Rattle.lattice_algebra.proofs.Powers.{power-zero, power-more, sum_of_powers-zero, sum_of_powers-more, within-+ᵐ}
 use Rattle.group_closure.specs.declared.TheConstants.{MAX_OPERATORS}
 use Rattle.op_types.specs.Cycle.{HasSmallPowers}
 

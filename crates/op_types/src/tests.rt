@@ -168,10 +168,13 @@ fn each_kind(rt: HostRuntime) -> Result<(), Fail> {
 
 /// The classical table: the order by the trace of a proper matrix, and by the opposite trace of one that is not.
 fn by_trace(w: &[i32; 9]) -> Option<Kind> {
-    let [a, b, c, d, e, f, g, h, i] = w.map(i64::from);
-    let proper = a * (e * i - f * h) - b * (d * i - f * g) + c * (d * h - e * g) == 1;
-    let trace = a + e + i;
-    let order = match if proper { trace } else { -trace } {
+    let [a, b, c, d, e, f, g, h, i] = *w;
+    let first = a.wrapping_mul(minor(e, i, f, h));
+    let second = b.wrapping_mul(minor(d, i, f, g));
+    let third = c.wrapping_mul(minor(d, h, e, g));
+    let proper = first.wrapping_sub(second).wrapping_add(third) == 1;
+    let trace = a.wrapping_add(e).wrapping_add(i);
+    let order = match if proper { trace } else { trace.wrapping_neg() } {
         3 => 1,
         -1 => 2,
         0 => 3,
@@ -180,6 +183,10 @@ fn by_trace(w: &[i32; 9]) -> Option<Kind> {
         _ => return None,
     };
     Some(Kind { order, proper })
+}
+
+fn minor(p: i32, q: i32, r: i32, s: i32) -> i32 {
+    p.wrapping_mul(q).wrapping_sub(r.wrapping_mul(s))
 }
 
 /// Every operator of F m -3 m and of P 6/m m m.

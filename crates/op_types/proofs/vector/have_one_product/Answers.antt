@@ -1,6 +1,6 @@
-use Rattle.std.proofs.Common.{List, ℕ, ℤ, [], ◌∷◌, ◌*◌, ◌≡◌, ◌*ℤ◌, w32, of_z, to_z, ap, ap₂, sym, ◌∙◌}
+use Rattle.std.proofs.Common.{List, ℕ, ℤ, [], ◌∷◌, ◌*◌, w32, of_z, to_z, ap, sym, ◌∙◌}
 use Rattle.std.proofs.lemmas.Bool.Decides.{Decides-eqb}
-use Rattle.lattice_algebra.proofs.Ring.{Expr, var, ◌⊗◌}
+use Rattle.lattice_algebra.proofs.Ring.{var, ◌⊗◌}
 use Rattle.lattice_algebra.proofs.Machine.{IsWithin, exact, computed}
 use Rattle.group_closure.specs.declared.TheConstants.{MAX_OPERATORS}
 use Rattle.op_types.proofs.vector.have_one_product.Goals as goal

@@ -1,4 +1,4 @@
-use Rattle.std.proofs.Common.{sym, ap, subst, ◌∙◌, ◌*ℤ◌, ◌*◌, FitsSigned, w32, rules, arith, int_div}
+use Rattle.std.proofs.Common.{sym, ap, ◌∙◌, ◌*ℤ◌, ◌*◌, FitsSigned, w32, rules, arith, int_div}
 use Rattle.std.proofs.lemmas.Int.{quot_is}
 use Rattle.group_closure.specs.declared.TheConstants.{MAX_OPERATORS}
 use Rattle.op_types.proofs.Divisors.{exact_quotient, quotient_fits}

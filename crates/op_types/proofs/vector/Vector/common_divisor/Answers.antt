@@ -1,4 +1,4 @@
-use Rattle.std.proofs.Common.{◌≤◌, ◌<◌, ◌*◌, ◌<ℤ◌, ℤ, ℕ, pos, unsigned_abs, sym, ap, subst, FitsSigned, w32, arith}
+use Rattle.std.proofs.Common.{◌≤◌, ◌<◌, ◌*◌, ◌<ℤ◌, ℕ, pos, unsigned_abs, sym, subst, FitsSigned, w32, arith}
 use Rattle.std.proofs.lemmas.Int.{ints}
 use Rattle.std.specs.Int.{◌∣◌}
 use Rattle.group_closure.specs.declared.TheConstants.{MAX_OPERATORS}

@@ -1,5 +1,4 @@
-use Rattle.std.proofs.Common.{rules, FitsSigned, w32, to_z, of_z, ◌≡◌}
-use Rattle.lattice_algebra.specs.Matrix.{times}
+use Rattle.std.proofs.Common.{rules, FitsSigned, w32}
 use Rattle.op_types.specs.Vector.{column_in}
 use Rattle.op_types.proofs.Divisors.{entry_divides, column_quotient, x_multiple, y_multiple, z_multiple, no_divisor_left}
 use Rattle.op_types.proofs.vector.Vector.reduced.Goals as goal
