@@ -16,7 +16,7 @@ known k a b = record { factor = k; left = a; right = b }
 
 -- ---- factors that are not 0
 
-zero_or_other : (x : ℤ) → (x ≡ pos 0) ⊎ (x ≢ pos 0)
+pub zero_or_other : (x : ℤ) → (x ≡ pos 0) ⊎ (x ≢ pos 0)
 zero_or_other (pos zero) = inl refl
 zero_or_other (pos (suc n)) = inr (λ e. omega (arith, ints, e))
 zero_or_other (negsuc n) = inr (λ e. omega (arith, ints, e))
@@ -40,7 +40,7 @@ nothing_image : (c : Column) (k : ℤ) → no_matrix ·ᶜ c ≡ times k origin
 unfolding ◌·ᶜ◌ times
 nothing_image c k = column_ring (k ∷ coordinates c) (sym_nothing ·ˢᶜ column_at 1) (sym_times (var 0) sym_origin) tt
 
-times_origin : (k : ℤ) → times k origin ≡ origin
+pub times_origin : (k : ℤ) → times k origin ≡ origin
 unfolding times
 times_origin k = column_ring (k ∷ []) (sym_times (var 0) sym_origin) sym_origin tt
 
@@ -51,7 +51,7 @@ unfolding ◌·ᶜ◌ times
     let v = column_at 10 in
     column_ring (k ∷ (entries m ++ coordinates c)) (x ·ˢᶜ sym_times (var 0) v) (sym_times (var 0) (x ·ˢᶜ v)) tt
 
-nested : (k d : ℤ) (b : Column) → times k (times d b) ≡ times (k *ℤ d) b
+pub nested : (k d : ℤ) (b : Column) → times k (times d b) ≡ times (k *ℤ d) b
 unfolding times
 nested k d b = column_ring (k ∷ d ∷ coordinates b) (sym_times (var 0) (sym_times (var 1) (column_at 2))) (sym_times (var 0 ⊗ var 1) (column_at 2)) tt
 
@@ -129,7 +129,7 @@ image_fixed p s k a o e h =
 pub fixed_image : (p s : Matrix) (k : ℕ) (c : Column) → s ≡ sum_of_powers p k → p ·ᶜ c ≡ c → s ·ᶜ c ≡ times (pos k) c
 fixed_image p s k c e f = ap (λ m. m ·ᶜ c) e ∙ sum_of_powers-fixed p k c f
 
-some_order : (k : ℕ) → 0 < k → pos k ≢ pos 0
+pub some_order : (k : ℕ) → 0 < k → pos k ≢ pos 0
 some_order k l e = omega (arith, ints, e)
 
 -- where all images are on one line with a, so is each fixed column

@@ -4,3 +4,5 @@ mod IntrinsicParts
 mod Lines
 mod Divisors
 mod FixedColumns
+pub mod OneType
+pub mod SomeType

@@ -68,7 +68,7 @@ small_opposite members f g c =
 
 -- ---- the proper part
 
-proper_or_not : (z : ℤ) → (pos 0 <ℤ z) ⊎ (pos 0 <ℤ z → ⊥)
+pub proper_or_not : (z : ℤ) → (pos 0 <ℤ z) ⊎ (pos 0 <ℤ z → ⊥)
 proper_or_not (pos zero) = inr (λ l. omega (arith, ints))
 proper_or_not (pos (suc n)) = inl (omega (arith, ints))
 proper_or_not (negsuc n) = inr (λ l. omega (arith, ints))

@@ -4,5 +4,6 @@ pub use Rattle.lattice_algebra.specs.Powers
 pub mod ProperPart
 pub mod Intrinsic
 pub mod Axis
+pub mod Types
 pub mod Cycle
 pub mod Vector
