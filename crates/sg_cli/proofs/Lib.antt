@@ -1,4 +1,3 @@
 pub mod Outcomes
-pub mod Printing
 pub mod Unique
 pub mod WordsLists

@@ -13,15 +13,14 @@ use Rattle.group_closure.specs.declared.group.CloseFault.{CloseFault}
 use Rattle.group_closure.specs.declared.group.CloseFault.TheVariants as closes
 use Rattle.group_closure.specs.Words.{Closes, IsUnclosed}
 use Rattle.group_closure.specs.GroupList.{IsGroupList}
+use Rattle.table_print.specs.Lines.{SomeText}
 use Rattle.sg_cli.specs.declared.TheConstants.{MAX_INPUT}
 use Rattle.sg_cli.specs.declared.words.Command.{Command}
-use Rattle.sg_cli.specs.declared.words.Command.TheVariants.{Ops}
 use Rattle.sg_cli.specs.Words.{IsCommand}
-use Rattle.sg_cli.specs.Operators.{operator_lines}
 use Rattle.sg_cli.specs.declared.fault.Fault.{Fault}
 use Rattle.sg_cli.specs.declared.fault.Fault.TheVariants as fault
 use Rattle.sg_cli.specs.Fault.{status_of, fault_of_close, fault_of_write}
-use Rattle.sg_cli.specs.Answer.{Printed, Refused, IsAnswer, text_for}
+use Rattle.sg_cli.specs.Answer.{Printed, Refused, IsAnswer, IsTextFor}
 use Rattle.sg_cli.specs.Run.{before_writing, HasStatus, IsTold, Completes}
 use Rattle.sg_cli.specs.Seen.{SeenSource, SeenSink}
 use Rattle.sg_cli.specs.Serve.{Answers, Serves}
@@ -94,10 +93,6 @@ module _ {S K : Type 0} (sink : SeenSink K) (source : SeenSource S) (words : Lis
   served command bytes (Err fault.NoMemory) is taken end short (inr h) = inr (h.0, all_told _ _ bytes _ taken end (h.1.0, (command, is, short, h.1.1), h.1.2))
   served command bytes (Err other) is taken end short h = (end, all_told _ _ bytes _ taken end (command, is, short, h.0), h.1)
 
--- the one command
-pub ops_text : (command : Command) (members : List Operator) → operator_lines members ≡ text_for command members
-ops_text Ops members = refl
-
 -- ---- from what reading, closing and printing did to what answering a command did
 
 module _ {K : Type 0} (sink : SeenSink K) (command : Command) (bytes : List ℕ) (old : K) (list : List Operator) (read : AreRead (lines_of bytes) list) where
@@ -106,10 +101,10 @@ module _ {K : Type 0} (sink : SeenSink K) (command : Command) (bytes : List ℕ)
   not_closed closes.NoMemory h = inl refl
 
   module _ (members : List Operator) (closed : Closes list) (group : IsGroupList list members) (new : K) where
-    pub printed : Appends (sink.held old) (sink.held new) (text_for command members) → Answers sink command bytes old new (Ok tt)
-    printed p = (text_for command members, (members, record { list = list; read = read; closes = closed; group = group }, refl), p)
+    pub printed : SomeText (IsTextFor command members) (Appends (sink.held old) (sink.held new)) → Answers sink command bytes old new (Ok tt)
+    printed p = (p.0, (members, record { list = list; read = read; closes = closed; group = group }, p.1), p.2)
 
-    pub not_printed : (stop : SinkStop) → AppendsFront (sink.held old) (sink.held new) (text_for command members) → (stop ≡ sinks.Failed → Rose (sink.faults old) (sink.faults new)) → (stop ≡ sinks.NoMemory → Rose (sink.wants old) (sink.wants new))
+    pub not_printed : (stop : SinkStop) → SomeText (IsTextFor command members) (AppendsFront (sink.held old) (sink.held new)) → (stop ≡ sinks.Failed → Rose (sink.faults old) (sink.faults new)) → (stop ≡ sinks.NoMemory → Rose (sink.wants old) (sink.wants new))
         → Answers sink command bytes old new (Err (fault_of_write stop))
-    not_printed sinks.Failed p failed no_memory = ((text_for command members, (members, record { list = list; read = read; closes = closed; group = group }, refl), p), failed refl)
-    not_printed sinks.NoMemory p failed no_memory = inr (no_memory refl, (text_for command members, (members, record { list = list; read = read; closes = closed; group = group }, refl), p))
+    not_printed sinks.Failed p failed no_memory = ((p.0, (members, record { list = list; read = read; closes = closed; group = group }, p.1), p.2), failed refl)
+    not_printed sinks.NoMemory p failed no_memory = inr (no_memory refl, (p.0, (members, record { list = list; read = read; closes = closed; group = group }, p.1), p.2))

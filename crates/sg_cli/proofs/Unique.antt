@@ -6,11 +6,15 @@ use Rattle.triplet_text.proofs.LineLaws.{unreadable_are_bad, not_unimodular_are_
 use Rattle.group_closure.specs.Words.{IsUnclosed}
 use Rattle.group_closure.specs.GroupList.{IsGroupList}
 use Rattle.group_closure.proofs.Lists.{one_list, not_closing}
+use Rattle.table_print.specs.Operators.{IsOperatorLine}
+use Rattle.table_print.specs.Types.{IsTypeLine}
+use Rattle.table_print.proofs.Lines.{one_text as one_lines}
+use Rattle.table_print.proofs.TypeLines.{one_operator_line, one_type_line}
 use Rattle.sg_cli.specs.declared.fault.Fault.TheVariants.{Words, TooLong, Unreadable, NotUnimodular, Unclosed}
 use Rattle.sg_cli.specs.declared.words.Command.{Command}
-use Rattle.sg_cli.specs.declared.words.Command.TheVariants.{Ops}
+use Rattle.sg_cli.specs.declared.words.Command.TheVariants.{Ops, Types}
 use Rattle.sg_cli.specs.Words.{IsCommand}
-use Rattle.sg_cli.specs.Answer.{Answer, Printed, Refused, IsAnswer, IsAnswerTo, IsGroupOf, DoNotClose, text_for}
+use Rattle.sg_cli.specs.Answer.{Answer, Printed, Refused, IsAnswer, IsAnswerTo, IsGroupOf, DoNotClose, IsTextFor}
 
 one_group : (bytes : List ℕ) (a b : List Operator) → IsGroupOf bytes a → IsGroupOf bytes b → a ≡ b
 one_group bytes a b p q =
@@ -22,9 +26,16 @@ closes_or_not bytes members p q = not_closing p.list (subst IsUnclosed (same_lis
 
 one_command : (words : List (List ℕ)) (c d : Command) → IsCommand words c → IsCommand words d → c ≡ d
 one_command words Ops Ops p q = refl
+one_command words Types Types p q = refl
+one_command words Ops Types p q = absurd (let e = sym p ∙ q in cc)
+one_command words Types Ops p q = absurd (let e = sym p ∙ q in cc)
+
+one_text : (command : Command) (members : List Operator) (s t : List ℕ) → IsTextFor command members s → IsTextFor command members t → s ≡ t
+one_text Ops members s t p q = one_lines IsOperatorLine one_operator_line members s t p q
+one_text Types members s t p q = one_lines IsTypeLine one_type_line members s t p q
 
 one_answer_to : (command : Command) (bytes : List ℕ) (a b : Answer) → IsAnswerTo command bytes a → IsAnswerTo command bytes b → a ≡ b
-one_answer_to command bytes (Printed s) (Printed t) p q = ap Printed (p.2 ∙ ap (text_for command) (one_group bytes p.0 q.0 p.1 q.1) ∙ sym q.2)
+one_answer_to command bytes (Printed s) (Printed t) p q = ap Printed (one_text command q.0 s t (subst (λ (members : List Operator). IsTextFor command members s) (one_group bytes p.0 q.0 p.1 q.1) p.2) q.2)
 one_answer_to command bytes (Printed s) (Refused (Unreadable k)) p q = absurd (none_bad IsUnreadable _ _ k unreadable_are_bad p.1.read q)
 one_answer_to command bytes (Printed s) (Refused (NotUnimodular k)) p q = absurd (none_bad IsNotUnimodular _ _ k not_unimodular_are_bad p.1.read q)
 one_answer_to command bytes (Printed s) (Refused Unclosed) p q = absurd (closes_or_not bytes p.0 p.1 q)

@@ -1,5 +1,5 @@
 -- What is answered to words over the bytes of an input.
-use Rattle.std.specs.Prelude.{◌≡◌, ◌≤◌, ◌<◌, List, ℕ, length}
+use Rattle.std.specs.Prelude.{◌≤◌, ◌<◌, List, ℕ, length}
 use Rattle.exact_ops.specs.Operator.{Operator}
 use Rattle.triplet_text.specs.Lines.{lines_of, AreRead, IsFirstBad, IsUnreadable, IsNotUnimodular}
 use Rattle.group_closure.specs.Words.{Closes, IsUnclosed}
@@ -8,10 +8,11 @@ use Rattle.sg_cli.specs.declared.TheConstants.{MAX_INPUT}
 use Rattle.sg_cli.specs.declared.fault.Fault.{Fault}
 use Rattle.sg_cli.specs.declared.fault.Fault.TheVariants.{Words, TooLong, Unreadable, NotUnimodular, Unclosed}
 use Rattle.sg_cli.specs.declared.words.Command.{Command}
-use Rattle.sg_cli.specs.declared.words.Command.TheVariants.{Ops}
+use Rattle.sg_cli.specs.declared.words.Command.TheVariants.{Ops, Types}
 use Rattle.sg_cli.specs.Words.{IsCommand, IsNoCommand}
 use Rattle.sg_cli.specs.Fault.{status_of}
-use Rattle.sg_cli.specs.Operators.{operator_lines}
+use Rattle.table_print.specs.Operators.{AreOperatorLines}
+use Rattle.table_print.specs.Types.{AreTypeLines}
 
 -- a text, or a refusal
 pub data Answer : Type 0 where
@@ -36,9 +37,10 @@ pub record DoNotClose (bytes : List ℕ) : Type 0 where
   pub read : AreRead (lines_of bytes) list
   pub unclosed : IsUnclosed list
 
--- what a command prints of a group
-abbrev pub text_for : Command → List Operator → List ℕ
-text_for Ops members = operator_lines members
+-- the text is what a command prints of a group
+abbrev pub IsTextFor : Command → List Operator → List ℕ → Type 0
+IsTextFor Ops members text = AreOperatorLines members text
+IsTextFor Types members text = AreTypeLines members text
 
 -- the answer to a command over an input that is not too long: the first line that applies
 abbrev pub IsAnswerTo : Command → List ℕ → Answer → Type 0
@@ -46,7 +48,7 @@ IsAnswerTo command bytes (Refused (Unreadable line)) = IsFirstBad IsUnreadable (
 IsAnswerTo command bytes (Refused (NotUnimodular line)) = IsFirstBad IsNotUnimodular (lines_of bytes) line
 IsAnswerTo command bytes (Refused Unclosed) = DoNotClose bytes
 IsAnswerTo command bytes (Refused _) = ⊥
-IsAnswerTo command bytes (Printed text) = (members : List Operator) × IsGroupOf bytes members × (text ≡ text_for command members)
+IsAnswerTo command bytes (Printed text) = (members : List Operator) × IsGroupOf bytes members × IsTextFor command members text
 
 -- the answer to words over an input: the first line that applies
 abbrev pub IsAnswer : List (List ℕ) → List ℕ → Answer → Type 0

@@ -1,6 +1,5 @@
 pub mod Answer
 pub mod Fault
-pub mod Operators
 pub mod Run
 pub mod Seen
 pub mod Serve

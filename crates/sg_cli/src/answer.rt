@@ -1,9 +1,10 @@
-ghost use Rattle.std.specs.Prelude.{◌≡◌, ◌≢◌, ◌⊎◌, ◌↔◌, ◌+◌, ◌≤◌, List, ℕ, IfSome, length, IsErrOf};
+ghost use Rattle.std.specs.Prelude.{◌≡◌, ◌≢◌, ◌⊎◌, ◌↔◌, ◌+◌, ◌≤◌, List, ℕ, IfSome, length, OnOk, OnErr, IsErrOf};
 ghost use Rattle.std.specs.Io.KnownBytes.{Appends, IsAtEnd};
 ghost use Rattle.sg_io.specs.Bytes.{AppendsFront, ConsumesSome};
 ghost use Rattle.sg_io.specs.Count.{Rose};
+ghost use Rattle.table_print.specs.Lines.{SomeText};
 ghost use Rattle.sg_cli.specs.declared.fault.Fault.{Fault};
-ghost use Rattle.sg_cli.specs.Answer.{Answer, IsAnswer};
+ghost use Rattle.sg_cli.specs.Answer.{Answer, IsAnswer, IsTextFor};
 ghost use Rattle.sg_cli.specs.Fault.{status_of, text_of};
 ghost use Rattle.sg_cli.specs.Run.{IsDecided, IsRefusal, IsReadToEnd, before_writing, HasStatus, IfPrinted, IfRefused, IsTold, Completes};
 ghost use Rattle.sg_cli.specs.Serve.{Answers, Serves};
@@ -11,11 +12,11 @@ ghost use Rattle.sg_cli.specs.Words.{IsNoCommand, texts};
 
 use crate::MAX_INPUT;
 use crate::fault::Fault;
-use crate::operators::print_ops;
 use crate::words::{Command, read_words};
 use group_closure::Group;
-use sg_io::{Sink, Source, put_all, read_all};
+use sg_io::{Sink, SinkStop, Source, put_all, read_all};
 use std::alloc::Global;
+use table_print::{print_ops, print_types};
 use triplet_text::read_lines;
 
 /// Words and bytes have one answer at most.
@@ -37,10 +38,21 @@ fn print_answer<K: Sink>(
 {
     let list = read_lines(alloc, bytes)?;
     let group = Group::close(alloc, &list)?;
-    match command {
-        Command::Ops => print_ops(&group, out)?,
-    }
+    print_text(command, &group, out)?;
     Ok(())
+}
+
+/// Prints what the command asks of the group.
+fn print_text<K: Sink>(command: Command, group: &Group, out: &mut K) -> Result<(), SinkStop>
+    ensures ok { OnOk result (SomeText (IsTextFor command group.now) (Appends (K.held out.old) (K.held out.new))) }
+    ensures err { OnErr result (SomeText (IsTextFor command group.now) (AppendsFront (K.held out.old) (K.held out.new))) }
+    ensures failed { IsErrOf result SinkStop.Failed → Rose (K.faults out.old) (K.faults out.new) }
+    ensures no_memory { IsErrOf result SinkStop.NoMemory → Rose (K.wants out.old) (K.wants out.new) }
+{
+    match command {
+        Command::Ops => print_ops(group, out),
+        Command::Types => print_types(group, out),
+    }
 }
 
 /// Reads the words and the source, and prints the answer.

@@ -1,10 +1,10 @@
 ghost use Rattle.std.specs.Prelude.{◌≡◌};
 ghost use Rattle.sg_cli.specs.Fault.{fault_of_read, fault_of_lines, fault_of_close, fault_of_write, status_of, text_of};
 
-use crate::line::Line;
 use group_closure::CloseFault;
 use itoa::Buffer;
 use sg_io::{ReadStop, SinkStop};
+use table_print::Line;
 use triplet_text::LineFault;
 
 /// Why no answer, or not the whole of it, was printed.

@@ -3,13 +3,11 @@
 
 mod answer;
 mod fault;
-mod line;
-mod operators;
 mod words;
 
 pub use answer::{answer_is_unique, run, tell};
 pub use fault::Fault;
-pub use line::Line;
+pub use table_print::Line;
 pub use words::{Command, read_words};
 
 /// The greatest number of bytes that an input may have.

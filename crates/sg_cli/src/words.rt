@@ -6,6 +6,8 @@ ghost use Rattle.sg_cli.specs.Words.{IsCommand, IsNoCommand, texts};
 pub enum Command {
     /// The operators of the group.
     Ops,
+    /// The operators with their kinds, intrinsic parts and axes.
+    Types,
 }
 
 /// The command that the words are. None exactly where they are no command in range.
@@ -15,6 +17,7 @@ pub fn read_words(words: &[String]) -> Option<Command>
 {
     match words {
         [word] if word.as_str() == "ops" => Some(Command::Ops),
+        [word] if word.as_str() == "types" => Some(Command::Types),
         _ => None,
     }
 }

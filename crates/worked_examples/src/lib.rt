@@ -8,4 +8,6 @@ mod ops;
 #[cfg(test)]
 mod streams;
 #[cfg(test)]
+mod types;
+#[cfg(test)]
 mod words;

@@ -3,7 +3,7 @@ use std::test::Fail;
 
 #[test]
 fn words_that_are_no_command_leave_the_input_unread(rt: HostRuntime) -> Result<(), Fail> {
-    let calls: [&[&str]; 15] = [
+    let calls: [&[&str]; 17] = [
         &[],
         &["ops", "ops"],
         &["help"],
@@ -19,6 +19,8 @@ fn words_that_are_no_command_leave_the_input_unread(rt: HostRuntime) -> Result<(
         &["basis", "2x,y,z"],
         &["sample", "4294967296"],
         &["ops", ""],
+        &["types", "types"],
+        &["type"],
     ];
     for words in calls {
         let answered = ask(rt.alloc(), words, b"x,y,z\n-x,-y,-z\n")?;

@@ -2,10 +2,10 @@ ghost use Rattle.std.specs.Prelude.{◌≡◌, ◌+◌, ◌≤◌, ◌++◌, [],
 
 use std::marker::Model;
 
-/// A line of at most 192 bytes in place, so that printing it and telling a fault take no memory.
+/// A line of at most 768 bytes in place, so that printing it and telling a fault take no memory.
 #[derive(Drop)]
 pub struct Line {
-    bytes: [u8; 192],
+    bytes: [u8; 768],
     len: usize,
 }
 
@@ -16,15 +16,15 @@ impl Model for Line {
 
     ghost view = { λ line. take line.len line.bytes };
 
-    ghost invariant = { λ line. line.len ≤ 192 };
+    ghost invariant = { λ line. line.len ≤ 768 };
 }
 
 impl Line {
-    pub(crate) fn new() -> Line
+    pub fn new() -> Line
         ensures { result ≡ [] }
     {
         Line {
-            bytes: [0; 192],
+            bytes: [0; 768],
             len: 0,
         }
     }
@@ -37,8 +37,8 @@ impl Line {
     }
 
     /// Adds the piece at the end.
-    pub(crate) fn push(&mut self, piece: &[u8])
-        requires { length self.old + length piece.now ≤ 192 }
+    pub fn push(&mut self, piece: &[u8])
+        requires { length self.old + length piece.now ≤ 768 }
         ensures { self.new ≡ self.old ++ piece.now }
     {
         let end = self.len + piece.len();
