@@ -27,4 +27,5 @@ mean() {
 mean 'a process that does nothing' "$runs" /dev/null /bin/true
 mean 'ops, P2_1/c (4 operators)' "$runs" examples/p21c.txt "$sg" ops
 mean 'ops, Fm-3m (192 operators)' "$runs" examples/fm-3m.txt "$sg" ops
+mean 'types, Fm-3m (192 operators)' "$runs" examples/fm-3m.txt "$sg" types
 mean 'ops, 174,762 equal lines' "$((runs / 10 + 1))" "$most" "$sg" ops
