@@ -7,6 +7,7 @@ use Rattle.std.proofs.Math.Nat.{pos_of_dvd_of_pos, dvd-mul_right, mul-div_cancel
 use Rattle.lattice_algebra.specs.Matrix.{Column, coordinates, times, origin}
 use Rattle.lattice_algebra.specs.Operator.{AreWithin}
 use Rattle.lattice_algebra.proofs.Ring.{Expr, Step, var, con, ◌⊕◌, ◌⊖◌, ◌⊗◌, neg, ring, ring_from}
+use Rattle.lattice_algebra.proofs.Columns.{times-times}
 use Rattle.lattice_algebra.proofs.MatrixRing.{column_at, sym_times, column_ring}
 use Rattle.group_closure.specs.declared.TheConstants.{MAX_OPERATORS}
 use Rattle.op_types.specs.Axis.{IsDirected, HasNoDivisor}
@@ -110,13 +111,9 @@ module _ (c : Column) (r g : ℕ) (inner : IsGcd (unsigned_abs c.y) (unsigned_ab
 
 -- ---- what is left has no divisor
 
-nested : (k d : ℤ) (b : Column) → times k (times d b) ≡ times (k *ℤ d) b
-unfolding times
-nested k d b = column_ring (k ∷ d ∷ coordinates b) (sym_times (var 0) (sym_times (var 1) (column_at 2))) (sym_times (var 0 ⊗ var 1) (column_at 2)) tt
-
 pub no_divisor_left : (k : ℤ) (c a : Column) → k ≢ pos 0 → c ≡ times k a → ((d : ℤ) → Divides d c → unsigned_abs d ∣ unsigned_abs k) → HasNoDivisor a
 no_divisor_left k c a some e greatest d b h =
-    let both : unsigned_abs (k *ℤ pos d) ∣ unsigned_abs k = greatest (k *ℤ pos d) (b, e ∙ ap (times k) h ∙ nested k (pos d) b) in
+    let both : unsigned_abs (k *ℤ pos d) ∣ unsigned_abs k = greatest (k *ℤ pos d) (b, e ∙ ap (times k) h ∙ times-times k (pos d) b) in
     let one : unsigned_abs k * d ∣ unsigned_abs k * 1 = subst (λ n. unsigned_abs k * d ∣ n) (omega arith) (subst (λ n. n ∣ unsigned_abs k) (unsigned_abs-mul k (pos d)) both) in
     le_of_dvd (omega arith) (dvd_of_mul-dvd-mul_left d (some_size k some) one)
 

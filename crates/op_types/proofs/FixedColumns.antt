@@ -4,6 +4,7 @@ use Rattle.std.proofs.lemmas.Int.{ints}
 use Rattle.lattice_algebra.specs.Matrix.{Matrix, Column, coordinates, entries, ◌·◌, ◌·ᶜ◌, times, origin, no_matrix}
 use Rattle.lattice_algebra.specs.Powers.{sum_of_powers, IsOrder}
 use Rattle.lattice_algebra.proofs.Ring.{Expr, Step, var, con, ◌⊕◌, ◌⊖◌, ◌⊗◌, ring, ring_from}
+use Rattle.lattice_algebra.proofs.Columns.{times-times}
 use Rattle.lattice_algebra.proofs.MatrixRing.{matrix_at, column_at, ◌·ˢᶜ◌, sym_times, sym_nothing, sym_origin, column_ring}
 use Rattle.lattice_algebra.proofs.Matrices.{·ᶜ_assoc}
 use Rattle.lattice_algebra.proofs.Numbers.{cancel_number}
@@ -51,13 +52,9 @@ unfolding ◌·ᶜ◌ times
     let v = column_at 10 in
     column_ring (k ∷ (entries m ++ coordinates c)) (x ·ˢᶜ sym_times (var 0) v) (sym_times (var 0) (x ·ˢᶜ v)) tt
 
-pub nested : (k d : ℤ) (b : Column) → times k (times d b) ≡ times (k *ℤ d) b
-unfolding times
-nested k d b = column_ring (k ∷ d ∷ coordinates b) (sym_times (var 0) (sym_times (var 1) (column_at 2))) (sym_times (var 0 ⊗ var 1) (column_at 2)) tt
-
 -- a multiple of k a is a multiple of a
 multiple_part : (a c v : Column) (k : ℤ) → c ≡ times k a → IsMultiple c v → IsMultiple a v
-multiple_part a c v k e h = (h.0, h.1 *ℤ k, h.2, h.3 ∙ ap (times h.1) e ∙ nested h.1 k a)
+multiple_part a c v k e h = (h.0, h.1 *ℤ k, h.2, h.3 ∙ ap (times h.1) e ∙ times-times h.1 k a)
 
 parallel_entry : (k a b u v : ℤ) → k ≢ pos 0 → a *ℤ (k *ℤ v) ≡ b *ℤ (k *ℤ u) → a *ℤ v ≡ b *ℤ u
 parallel_entry k a b u v some e = cancel k (a *ℤ v) (b *ℤ u) some (ring_from (k ∷ a ∷ b ∷ u ∷ v ∷ []) (var 0 ⊗ (var 1 ⊗ var 4)) (var 0 ⊗ (var 2 ⊗ var 3)) (known (con (pos 1)) (var 1 ⊗ (var 0 ⊗ var 4)) (var 2 ⊗ (var 0 ⊗ var 3)) ∷ []) (e, tt) tt)

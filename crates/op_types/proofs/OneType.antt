@@ -6,6 +6,7 @@ use Rattle.lattice_algebra.specs.Matrix.{Matrix, Column, coordinates, det, ◌·
 use Rattle.lattice_algebra.specs.Operator.{Operator}
 use Rattle.lattice_algebra.specs.Powers.{IsOrder, sum_of_powers}
 use Rattle.lattice_algebra.proofs.Ring.{Expr, Step, var, con, neg, ◌⊕◌, ◌⊗◌, ring_from}
+use Rattle.lattice_algebra.proofs.Columns.{swap_times, times-times}
 use Rattle.lattice_algebra.proofs.MatrixRing.{column_at, sym_times, sym_origin, column_ring}
 use Rattle.exact_ops.specs.declared.TheConstants.{UNIT}
 use Rattle.op_types.specs.ProperPart.{IsProperPart, opposite}
@@ -13,7 +14,7 @@ use Rattle.op_types.specs.Intrinsic.{IsIntrinsicPart}
 use Rattle.op_types.specs.Axis.{IsAxis, IsDirected, HasNoDivisor}
 use Rattle.op_types.specs.Types.{OperationType, HasAxis, IsTypeOf}
 use Rattle.op_types.proofs.Members.{proper_or_not}
-use Rattle.op_types.proofs.FixedColumns.{cancel_times, nested, times_origin, some_order}
+use Rattle.op_types.proofs.FixedColumns.{cancel_times, times_origin, some_order}
 
 -- two types that say the same: the intrinsic parts are equal as fractions
 pub record AgreeInType (s t : OperationType) : Type 0 where
@@ -43,14 +44,10 @@ same_order p j k h i =
 
 -- ---- the intrinsic part
 
-exchange : (x y : ℤ) (c : Column) → times x (times y c) ≡ times y (times x c)
-unfolding times
-exchange x y c = column_ring (x ∷ y ∷ coordinates c) (sym_times (var 0) (sym_times (var 1) (column_at 2))) (sym_times (var 1) (sym_times (var 0) (column_at 2))) tt
-
 -- two fractions for one column are equal
 same_fraction : (k d e : ℤ) (m n v : Column) → k ≢ pos 0 → times k m ≡ times d v → times k n ≡ times e v → times d n ≡ times e m
 same_fraction k d e m n v some h i =
-    cancel_times k (times d n) (times e m) some (exchange k d n ∙ ap (times d) i ∙ exchange d e v ∙ ap (times e) (sym h) ∙ exchange e k m)
+    cancel_times k (times d n) (times e m) some (swap_times k d n ∙ ap (times d) i ∙ swap_times d e v ∙ ap (times e) (sym h) ∙ swap_times e k m)
 
 same_intrinsic_part : (f : Operator) (m n : Column) (d e : ℤ) → IsIntrinsicPart f m d → IsIntrinsicPart f n e → times d n ≡ times e m
 same_intrinsic_part f m n d e h i =
@@ -176,7 +173,7 @@ some_opposite : (a : Column) → a ≢ origin → times (negsuc 0) a ≢ origin
 some_opposite a some e = some (sym (opposite_twice a) ∙ ap (times (negsuc 0)) e ∙ times_origin (negsuc 0))
 
 undivided_opposite : (a : Column) → HasNoDivisor a → HasNoDivisor (times (negsuc 0) a)
-undivided_opposite a whole d b e = whole d (times (negsuc 0) b) (sym (opposite_twice a) ∙ ap (times (negsuc 0)) e ∙ exchange (negsuc 0) (pos d) b)
+undivided_opposite a whole d b e = whole d (times (negsuc 0) b) (sym (opposite_twice a) ∙ ap (times (negsuc 0)) e ∙ swap_times (negsuc 0) (pos d) b)
 
 not_both : (x : ℤ) → pos 0 <ℤ x → pos 0 <ℤ (negsuc 0 *ℤ x) → ⊥
 not_both x l m = omega (arith, ints)
@@ -224,7 +221,7 @@ module _ (p : Matrix) (a b : Column) (h : IsAxis p a) (k : IsAxis p b) where
   multiple_same (pos zero) n some e = absurd (some refl)
   multiple_same (pos (suc m)) n some e = positive_multiple m n e
   multiple_same (negsuc m) n some e =
-      positive_multiple m (negsuc 0 *ℤ n) (sym (opposite_twice (times (pos (suc m)) b)) ∙ ap (times (negsuc 0)) (exchange (negsuc 0) (pos (suc m)) b ∙ sym (below_zero m b) ∙ e) ∙ nested (negsuc 0) n a)
+      positive_multiple m (negsuc 0 *ℤ n) (sym (opposite_twice (times (pos (suc m)) b)) ∙ ap (times (negsuc 0)) (swap_times (negsuc 0) (pos (suc m)) b ∙ sym (below_zero m b) ∙ e) ∙ times-times (negsuc 0) n a)
 
   same_vector : a ≡ b
   same_vector = let r = h.along.all b k.along.fixed in multiple_same r.0 r.1 r.2 r.3

@@ -13,12 +13,12 @@ use Rattle.op_types.specs.Axis.{IsLine, IsAxis}
 use Rattle.op_types.specs.Types.{OperationType, IsTypeOf, HasAxis}
 use Rattle.op_types.proofs.OneType.{one_type}
 use Rattle.op_types.proofs.SomeType.{some_type}
-use Rattle.triplet_text.specs.Bytes.{comma, line_feed}
+use Rattle.triplet_text.specs.Bytes.{comma, space, line_feed}
 use Rattle.triplet_text.specs.Fractions.{frac_text}
 use Rattle.triplet_text.specs.Printing.{operator_text}
 use Rattle.triplet_text.proofs.LowestTerms.{one_text}
 use Rattle.table_print.specs.Operators.{IsOperatorLine}
-use Rattle.table_print.specs.Types.{IsTypeLine, space, type_line, kind_text, part_text}
+use Rattle.table_print.specs.Types.{IsTypeLine, type_line, kind_text, part_text}
 
 pub one_operator_line : (f : Operator) (l m : List ℕ) → IsOperatorLine f l → IsOperatorLine f m → l ≡ m
 one_operator_line f l m p q = p ∙ sym q

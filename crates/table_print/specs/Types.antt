@@ -4,13 +4,10 @@ use Rattle.std.specs.Fmt.{signed_decimal}
 use Rattle.exact_ops.specs.Operator.{Operator}
 use Rattle.op_types.specs.Matrix.{Column}
 use Rattle.op_types.specs.Types.{OperationType, IsTypeOf}
-use Rattle.triplet_text.specs.Bytes.{line_feed, comma, minus_sign}
+use Rattle.triplet_text.specs.Bytes.{line_feed, space, comma, minus_sign}
 use Rattle.triplet_text.specs.Fractions.{frac_text}
 use Rattle.triplet_text.specs.Printing.{operator_text}
 use Rattle.table_print.specs.Lines.{AreLines}
-
-abbrev pub space : ℕ
-space = 32
 
 abbrev pub letter_m : ℕ
 letter_m = 109

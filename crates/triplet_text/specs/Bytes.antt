@@ -4,6 +4,9 @@ use Rattle.std.specs.Prelude.{◌==◌, ◌||◌, ◌&&◌, Bool, ℕ, nat_le}
 abbrev pub line_feed : ℕ
 line_feed = 10
 
+abbrev pub space : ℕ
+space = 32
+
 abbrev pub hash : ℕ
 hash = 35
 
