@@ -9,3 +9,4 @@ pub mod Equality
 pub mod Maps
 pub mod Operators
 pub mod Powers
+pub mod Points

@@ -1,12 +1,13 @@
 -- What the machine computes: sums and products of numbers of fixed width, where each number has a bound.
 -- `size b e` bounds the size of e, where b bounds the variables. `fits` shows that no step of e leaves the width, and `computed` that the machine gets the value of e.
-use Rattle.std.proofs.Common.{◌≡◌, ℕ, zero, suc, ◌+◌, ◌*◌, ◌^◌, ◌≤◌, ◌<◌, Bool, true, false, ◌&&◌, ltb, List, [], ◌∷◌, ℤ, ◌+ℤ◌, ◌-ℤ◌, ◌*ℤ◌, neg_ℤ, unsigned_abs, FitsSigned, T, arith, refl, sym, ap, ap₂, ◌∙◌, subst, to_z, of_z, mul-le-mul, le_refl, lt_of_le_of_lt}
+use Rattle.std.proofs.Common.{◌≡◌, ℕ, zero, suc, ◌+◌, ◌*◌, ◌^◌, ◌≤◌, ◌<◌, Bool, ◌&&◌, ltb, List, [], ◌∷◌, ℤ, ◌+ℤ◌, ◌-ℤ◌, ◌*ℤ◌, neg_ℤ, unsigned_abs, FitsSigned, T, arith, refl, sym, ap, ap₂, ◌∙◌, subst, to_z, of_z, mul-le-mul, le_refl, lt_of_le_of_lt}
 use Rattle.std.proofs.lemmas.Int.{ints, to_z-of_z, unsigned_abs-mul, fits_signed_from_abs}
 use Rattle.std.specs.Int.{Width}
 use mir.Val.{hbits}
 use mir.Syntax.{w32}
 use lib.Dec.{ltb→lt}
-use Rattle.lattice_algebra.proofs.Ring.{Expr, var, con, ◌⊕◌, ◌⊖◌, ◌⊗◌, neg, value, look}
+use Rattle.lattice_algebra.proofs.Ring.{Expr, var, con, ◌⊕◌, ◌⊖◌, ◌⊗◌, neg, value, look, both}
+use Rattle.lattice_algebra.proofs.Numbers.{abs_add}
 
 abbrev pub bound_at : List ℕ → ℕ → ℕ
 bound_at [] n = 0
@@ -49,11 +50,8 @@ machine w r (x ⊖ y) = back w (machine w r x) -ℤ back w (machine w r y)
 machine w r (x ⊗ y) = back w (machine w r x) *ℤ back w (machine w r y)
 machine w r (neg x) = neg_ℤ (back w (machine w r x))
 
-abs-add : (a b : ℤ) → unsigned_abs (a +ℤ b) ≤ unsigned_abs a + unsigned_abs b
-abs-add a b = omega (arith, ints)
-
-abs-neg : (a : ℤ) → unsigned_abs (neg_ℤ a) ≡ unsigned_abs a
-abs-neg a = omega (arith, ints)
+abs_neg : (a : ℤ) → unsigned_abs (neg_ℤ a) ≡ unsigned_abs a
+abs_neg a = omega (arith, ints)
 
 look-size : (b : List ℕ) (r : List ℤ) (v : ℕ) → IsWithin b r → unsigned_abs (look r v) ≤ bound_at b v
 look-size b [] v h = omega arith
@@ -65,14 +63,10 @@ look-size (b ∷ bs) (x ∷ r) (suc v) h = look-size bs r v h.1
 pub value-size : (b : List ℕ) (r : List ℤ) (e : Expr) → IsWithin b r → unsigned_abs (value r e) ≤ size b e
 value-size b r (var v) h = look-size b r v h
 value-size b r (con c) h = le_refl (unsigned_abs c)
-value-size b r (x ⊕ y) h = omega (arith, abs-add (value r x) (value r y), value-size b r x h, value-size b r y h)
-value-size b r (x ⊖ y) h = omega (arith, abs-add (value r x) (neg_ℤ (value r y)), abs-neg (value r y), value-size b r x h, value-size b r y h)
+value-size b r (x ⊕ y) h = omega (arith, abs_add (value r x) (value r y), value-size b r x h, value-size b r y h)
+value-size b r (x ⊖ y) h = omega (arith, abs_add (value r x) (neg_ℤ (value r y)), abs_neg (value r y), value-size b r x h, value-size b r y h)
 value-size b r (x ⊗ y) h = rw (unsigned_abs-mul (value r x) (value r y)) (mul-le-mul (value-size b r x h) (value-size b r y h))
-value-size b r (neg x) h = rw (abs-neg (value r x)) (value-size b r x h)
-
-both : (a b : Bool) → T (a && b) → T a × T b
-both true b t = (tt, t)
-both false b t = absurd t
+value-size b r (neg x) h = rw (abs_neg (value r x)) (value-size b r x h)
 
 top_below : (h : ℕ) (b : List ℕ) (e : Expr) → T (steps_below h b e) → size b e < h
 top_below h b (var v) t = ltb→lt (bound_at b v) h t

@@ -1,6 +1,6 @@
 -- Affine maps with whole numbers: x -> W x + s / unit, whole shifts of the cell included, so that products are exact.
-use Rattle.std.specs.Prelude.{◌≡◌, ℕ}
-use Rattle.lattice_algebra.specs.Matrix.{Matrix, Column, ◌·◌, ◌·ᶜ◌, ◌+ᶜ◌, neg_column, identity, origin, inverse_matrix}
+use Rattle.std.specs.Prelude.{◌≡◌, ℕ, pos}
+use Rattle.lattice_algebra.specs.Matrix.{Matrix, Column, ◌·◌, ◌·ᶜ◌, ◌+ᶜ◌, neg_column, times, identity, origin, inverse_matrix}
 use Rattle.lattice_algebra.specs.Operator.{Operator, modulo}
 
 -- the matrix W, and the translation s in parts of a cell
@@ -32,3 +32,7 @@ operator_of unit g = record { w = g.w; t = modulo unit g.s }
 -- the map of an operator, without whole shifts
 abbrev pub map_of : Operator → Map
 map_of f = record { w = f.w; s = f.t }
+
+-- the whole cells by which a map shifts, beside the translation of its operator
+abbrev pub IsShift : ℕ → Map → Column → Type 0
+IsShift unit g k = g.s ≡ modulo unit g.s +ᶜ times (pos unit) k

@@ -6,7 +6,7 @@ use Rattle.std.proofs.lemmas.Nat.Gcd.{le_of_dvd, dvd_trans}
 use Rattle.std.proofs.Math.Nat.{pos_of_dvd_of_pos, dvd-mul_right, mul-div_cancel', dvd_of_mul-dvd-mul_left, le-mul_of_pos_right}
 use Rattle.lattice_algebra.specs.Matrix.{Column, coordinates, times, origin}
 use Rattle.lattice_algebra.specs.Operator.{AreWithin}
-use Rattle.lattice_algebra.proofs.Ring.{Expr, Step, var, con, ◌⊕◌, ◌⊖◌, ◌⊗◌, neg, ring, ring_from}
+use Rattle.lattice_algebra.proofs.Ring.{Expr, known, var, con, ◌⊕◌, ◌⊖◌, ◌⊗◌, neg, ring, ring_from}
 use Rattle.lattice_algebra.proofs.Columns.{times-times}
 use Rattle.lattice_algebra.proofs.MatrixRing.{column_at, sym_times, column_ring}
 use Rattle.group_closure.specs.declared.TheConstants.{MAX_OPERATORS}
@@ -32,9 +32,6 @@ small_multiple d x c e l =
     let none : unsigned_abs d * unsigned_abs x ≡ unsigned_abs d * 0 = ap (λ m. unsigned_abs d * m) z in
     let zero_size : unsigned_abs c ≡ 0 = omega (arith, s, none) in
     omega (arith, ints, zero_size)
-
-abbrev known : Expr → Expr → Expr → Step
-known k a b = record { factor = k; left = a; right = b }
 
 rest_is : (n d q p r : ℤ) → p *ℤ d +ℤ r ≡ n → n ≡ d *ℤ q → r ≡ d *ℤ (q -ℤ p)
 rest_is n d q p r h e =

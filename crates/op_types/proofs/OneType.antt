@@ -5,7 +5,7 @@ use Rattle.std.proofs.lemmas.Int.{ints}
 use Rattle.lattice_algebra.specs.Matrix.{Matrix, Column, coordinates, det, ◌·ᶜ◌, ◌+ᶜ◌, times, origin}
 use Rattle.lattice_algebra.specs.Operator.{Operator}
 use Rattle.lattice_algebra.specs.Powers.{IsOrder, sum_of_powers}
-use Rattle.lattice_algebra.proofs.Ring.{Expr, Step, var, con, neg, ◌⊕◌, ◌⊗◌, ring_from}
+use Rattle.lattice_algebra.proofs.Ring.{Expr, known, var, con, neg, ◌⊕◌, ◌⊗◌, ring_from}
 use Rattle.lattice_algebra.proofs.Columns.{swap_times, times-times}
 use Rattle.lattice_algebra.proofs.MatrixRing.{column_at, sym_times, sym_origin, column_ring}
 use Rattle.exact_ops.specs.declared.TheConstants.{UNIT}
@@ -79,9 +79,6 @@ same_multiples a b e = record { one = a; first = 1; second = 1; is_first = sym (
 -- b - a
 abbrev less : Column → Column → Column
 less b a = b +ᶜ times (negsuc 0) a
-
-abbrev known : Expr → Expr → Expr → Step
-known k a b = record { factor = k; left = a; right = b }
 
 entry_left : (m k d a b : ℤ) → k ≡ m +ℤ d → m *ℤ b ≡ k *ℤ a → m *ℤ (b +ℤ negsuc 0 *ℤ a) ≡ d *ℤ a
 entry_left m k d a b s e =
