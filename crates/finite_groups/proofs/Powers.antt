@@ -1,13 +1,15 @@
--- The powers of a member of a closed list: one of them above 0, no later than the list is long, is the unit.
-use Rattle.std.proofs.Common.{◌≡◌, ℕ, zero, suc, ◌+◌, ◌<◌, ◌≤◌, ◌⊎◌, inl, inr, ⊎_elim, List, [], ◌∷◌, length, refl, sym, ap, ◌∙◌, subst, arith, Contains}
+-- The powers of a member of a closed list: one of them above 0, no later than the list is long, is the unit, and the
+-- least such power divides the length of the list.
+use Rattle.std.proofs.Common.{◌≡◌, ℕ, zero, suc, ◌+◌, ◌*◌, ◌/◌, ◌%◌, ◌<◌, ◌≤◌, ◌⊎◌, inl, inr, ⊎_elim, List, [], ◌∷◌, length, refl, sym, ap, ap₂, ◌∙◌, subst, arith, Contains}
 use Rattle.std.specs.List.{IsDistinct, list_any}
-use Rattle.std.proofs.lemmas.Bool.{cases_Bool, false≢true}
+use Rattle.std.proofs.lemmas.Bool.{cases_Bool, cases_lt, false≢true}
 use Rattle.std.proofs.lemmas.List.Elements.{All-contains}
 use Rattle.std.proofs.lemmas.Map.Keys.{IsDistinct-from_apart}
 use Rattle.finite_groups.specs.Groups.{Group}
 use Rattle.finite_groups.specs.Words.{IsClosedList}
 use Rattle.finite_groups.proofs.Basics as basics
 use Rattle.finite_groups.proofs.Members as members
+use Rattle.finite_groups.proofs.Cosets as cosets
 
 module _ (F : Group) where
   open F use {X, eq, same, In, mul, one, one_in, mul_in, assoc, left, right}
@@ -87,3 +89,103 @@ module _ (F : Group) where
           let le : length (powers x (suc (length xs))) ≤ length xs = members.pigeonhole eq same (powers x (suc (length xs))) xs d (λ y h. let r = which_power x y (suc (length xs)) h in subst (λ v. Contains xs v) r.2 (Contains-power xs x r.0 c m)) in
           let long : length (powers x (suc (length xs))) ≡ suc (length xs) = length-powers x (suc (length xs)) in
           omega arith
+
+  -- ---- the order of a member
+
+  -- k is the least power of x above 0 that is the unit
+  pub record IsOrder (x : X) (k : ℕ) : Type 0 where
+    pub positive : 0 < k
+    pub returns : power x k ≡ one
+    pub least : (j : ℕ) → 0 < j → power x j ≡ one → k ≤ j
+
+  power-multiple : (x : X) (k q n : ℕ) → In x → power x k ≡ one → n ≡ q * k → power x n ≡ one
+  power-multiple x k zero n v e s = ap (power x) (let none : n ≡ 0 = omega arith in none)
+  power-multiple x k (suc q) n v e s = power-add x k (q * k) n v (omega arith) ∙ ap (λ y. mul y (power x (q * k))) e ∙ left (power x (q * k)) (power_in x (q * k) v) ∙ power-multiple x k q (q * k) v e refl
+
+  -- where x^k is the unit, x^n and x^r are equal if r is what n leaves
+  power-rest : (x : X) (k q r n : ℕ) → In x → power x k ≡ one → n ≡ q * k + r → power x n ≡ power x r
+  power-rest x k q r n v e s = power-add x (q * k) r n v s ∙ ap (λ y. mul y (power x r)) (power-multiple x k q (q * k) v e refl) ∙ left (power x r) (power_in x r v)
+
+  quotient : (k n : ℕ) → 0 < k → n ≡ n / k * k + n % k
+  quotient k n p = omega arith
+
+  below : (k n : ℕ) → 0 < k → n % k < k
+  below k n p = omega arith
+
+  -- the order divides each power that is the unit
+  pub returns_divides : (x : X) (k n : ℕ) → In x → IsOrder x k → power x n ≡ one → (q : ℕ) × (n ≡ q * k)
+  returns_divides x k n v o e = (n / k, multiple (n % k) (below k n o.positive) (quotient k n o.positive) (sym (power-rest x k (n / k) (n % k) n v o.returns (quotient k n o.positive)) ∙ e))
+    where
+      multiple : (r : ℕ) → r < k → n ≡ n / k * k + r → power x r ≡ one → n ≡ n / k * k
+      multiple zero l s b = omega arith
+      multiple (suc r) l s b = absurd (let le : k ≤ suc r = o.least (suc r) (omega arith) b in omega arith)
+
+  is_power : (x : X) (n j : ℕ) → j < n → Contains (powers x n) (power x j)
+  is_power x zero j l = absurd (omega arith)
+  is_power x (suc n) j l =
+      elim (cases_lt j n) [
+        | inl e ↦ members.Contains-later (power x j) (power x n) (powers x n) (is_power x n j e)
+        | inr e ↦ subst (λ i. Contains (power x n ∷ powers x n) (power x i)) (let last : n ≡ j = omega arith in last) (members.Contains-here (power x n) (powers x n))
+      ]
+
+  -- the powers below the order are distinct
+  powers_apart : (x : X) (k : ℕ) → In x → IsOrder x k → IsDistinct eq (powers x k)
+  powers_apart x zero v o = absurd (let p : 0 < 0 = o.positive in omega arith)
+  powers_apart x (suc n) v o = ⊎_elim (λ r. absurd (let le : suc n ≤ r.0 = o.least r.0 r.1 r.3 in omega (arith, r.2))) (λ d. d) (returns_or_apart x n v)
+
+  -- the order of a member divides the length of the list
+  pub order_divides : (xs : List X) (x : X) (k : ℕ) → IsClosedList F xs → Contains xs x → IsOrder x k → (q : ℕ) × (length xs ≡ q * k)
+  order_divides xs x k c m o =
+      let r = cosets.part_divides F xs (powers x k) c (powers_apart x k v o) one (is_power x k 0 o.positive) inside closed in
+      (r.0, r.1 ∙ ap (λ n. r.0 * n) (length-powers x k))
+    where
+      v : In x
+      v = All-contains In xs x c.valid m
+
+      inside : (y : X) → Contains (powers x k) y → Contains xs y
+      inside y h = let r = which_power x y k h in subst (λ z. Contains xs z) r.2 (Contains-power xs x r.0 c m)
+
+      closed : (a b : X) → Contains (powers x k) a → Contains (powers x k) b → Contains (powers x k) (mul a b)
+      closed a b h i =
+          let r = which_power x a k h in
+          let s = which_power x b k i in
+          let n = r.0 + s.0 in
+          subst (λ z. Contains (powers x k) z)
+          (sym (power-rest x k (n / k) (n % k) n v o.returns (quotient k n o.positive)) ∙ power-add x r.0 s.0 n v refl ∙ ap₂ mul r.2 s.2)
+          (is_power x k (n % k) (below k n o.positive))
+
+  -- where a power above 0 and at most n is the unit, x has an order
+  order_or_none : (x : X) (n : ℕ) → (Returns x n → ⊥) ⊎ ((k : ℕ) × IsOrder x k)
+  order_or_none x zero = inl (λ r. omega (arith, r.1, r.2))
+  order_or_none x (suc n) = ⊎_elim later inr (order_or_none x n)
+    where
+      later : (Returns x n → ⊥) → (Returns x (suc n) → ⊥) ⊎ ((k : ℕ) × IsOrder x k)
+      later none =
+          elim (cases_Bool (eq (power x (suc n)) one)) [
+            | inl e ↦ inr (
+              suc n,
+              record {
+                positive = omega arith;
+                returns = (same (power x (suc n)) one).0 e;
+                least = λ j p b. elim (cases_lt n j) [
+                  | inl l ↦ omega arith
+                  | inr l ↦ absurd (none (j, p, l, b))
+                ];
+              },
+            )
+            | inr e ↦ inl (λ r. elim (cases_lt n r.0) [
+              | inl l ↦ absurd (false≢true (sym e ∙ (same (power x (suc n)) one).1 (subst (λ i. power x i ≡ one) (let last : r.0 ≡ suc n = omega (arith, r.2) in last) r.3)))
+              | inr l ↦ absurd (none (r.0, r.1, l, r.3))
+            ])
+          ]
+
+  -- each member has an order
+  pub some_order : (xs : List X) (x : X) → IsClosedList F xs → Contains xs x → (k : ℕ) × IsOrder x k
+  some_order xs x c m = ⊎_elim (λ none. absurd (none (returns xs x c m))) (λ o. o) (order_or_none x (length xs))
+
+  -- a member to the power of the length of the list is the unit
+  pub power-length : (xs : List X) (x : X) → IsClosedList F xs → Contains xs x → power x (length xs) ≡ one
+  power-length xs x c m =
+      let o = some_order xs x c m in
+      let r = order_divides xs x o.0 c m o.1 in
+      power-multiple x o.0 r.0 (length xs) (All-contains In xs x c.valid m) o.1.returns r.1

@@ -6,7 +6,7 @@ use Rattle.std.proofs.lemmas.Nat.Gcd.{le_of_dvd, dvd_trans}
 use Rattle.std.proofs.Math.Nat.{pos_of_dvd_of_pos, dvd-mul_right, mul-div_cancel', dvd_of_mul-dvd-mul_left, le-mul_of_pos_right}
 use Rattle.lattice_algebra.specs.Matrix.{Column, coordinates, times, origin}
 use Rattle.lattice_algebra.specs.Operator.{AreWithin}
-use Rattle.lattice_algebra.proofs.Ring.{Expr, known, var, con, ◌⊕◌, ◌⊖◌, ◌⊗◌, neg, ring, ring_from}
+use Rattle.lattice_algebra.proofs.Ring.{known, var, con, ◌⊕◌, ◌⊖◌, ◌⊗◌, neg, ring, ring_from}
 use Rattle.lattice_algebra.proofs.Columns.{times-times}
 use Rattle.lattice_algebra.proofs.MatrixRing.{column_at, sym_times, column_ring}
 use Rattle.group_closure.specs.declared.TheConstants.{MAX_OPERATORS}

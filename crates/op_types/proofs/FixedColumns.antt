@@ -3,7 +3,7 @@ use Rattle.std.proofs.Common.{◌≡◌, ◌≢◌, ◌⊎◌, inl, inr, ⊎_eli
 use Rattle.std.proofs.lemmas.Int.{ints}
 use Rattle.lattice_algebra.specs.Matrix.{Matrix, Column, coordinates, entries, ◌·◌, ◌·ᶜ◌, times, origin, no_matrix}
 use Rattle.lattice_algebra.specs.Powers.{sum_of_powers, IsOrder}
-use Rattle.lattice_algebra.proofs.Ring.{Expr, known, var, con, ◌⊕◌, ◌⊖◌, ◌⊗◌, ring, ring_from}
+use Rattle.lattice_algebra.proofs.Ring.{known, var, con, ◌⊕◌, ◌⊖◌, ◌⊗◌, ring, ring_from}
 use Rattle.lattice_algebra.proofs.Columns.{times-times}
 use Rattle.lattice_algebra.proofs.MatrixRing.{matrix_at, column_at, ◌·ˢᶜ◌, sym_times, sym_nothing, sym_origin, column_ring}
 use Rattle.lattice_algebra.proofs.Matrices.{·ᶜ_assoc}

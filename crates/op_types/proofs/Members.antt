@@ -1,8 +1,8 @@
 -- The matrices of the members of a group, and their opposites, have small powers that return.
-use Rattle.std.proofs.Common.{◌≡◌, ℕ, zero, suc, ◌+◌, List, inl, inr, ⊎_elim, sym, ap, subst, ◌∙◌, refl, arith, Contains, Some, slice_get, ℤ, pos, negsuc, ◌<ℤ◌, ◌⊎◌}
+use Rattle.std.proofs.Common.{◌≡◌, ℕ, zero, suc, ◌+◌, List, length, inl, inr, ⊎_elim, sym, ap, subst, ◌∙◌, refl, arith, Contains, Some, slice_get, ℤ, pos, negsuc, ◌<ℤ◌, ◌⊎◌}
 use Rattle.std.proofs.lemmas.Int.{ints}
 use Rattle.std.proofs.lemmas.List.Elements.{All-contains}
-use Rattle.lattice_algebra.specs.Matrix.{Matrix, det, ◌·◌}
+use Rattle.lattice_algebra.specs.Matrix.{Matrix, det, identity, ◌·◌}
 use Rattle.lattice_algebra.specs.Operator.{Operator, product, HasEntriesWithin}
 use Rattle.lattice_algebra.specs.Powers.{power}
 use Rattle.lattice_algebra.proofs.Powers.{power-opposite, power-opposite_twice, within-opposite}
@@ -40,6 +40,10 @@ small_powers members f g c =
       short = omega (arith, r.2, g.within);
       returns = sym (power-w f r.0) ∙ ap (λ (h : Operator). h.w) r.3;
     }
+
+-- the matrix of a member to the power of the number of members
+pub power-length : (members : List Operator) (f : Operator) → IsGroup members → Contains members f → power f.w (length members) ≡ identity
+power-length members f g c = sym (power-w f (length members)) ∙ ap (λ (h : Operator). h.w) (powers.power-length cell_operators members f (closed_list members g) c)
 
 narrow_opposite : (w : Matrix) (k : ℕ) → ((k : ℕ) → HasEntriesWithin 2 (power w k)) → HasEntriesWithin 2 (power (opposite w) k)
 narrow_opposite w k h =

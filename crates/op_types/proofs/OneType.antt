@@ -5,7 +5,7 @@ use Rattle.std.proofs.lemmas.Int.{ints}
 use Rattle.lattice_algebra.specs.Matrix.{Matrix, Column, coordinates, det, ◌·ᶜ◌, ◌+ᶜ◌, times, origin}
 use Rattle.lattice_algebra.specs.Operator.{Operator}
 use Rattle.lattice_algebra.specs.Powers.{IsOrder, sum_of_powers}
-use Rattle.lattice_algebra.proofs.Ring.{Expr, known, var, con, neg, ◌⊕◌, ◌⊗◌, ring_from}
+use Rattle.lattice_algebra.proofs.Ring.{known, var, con, neg, ◌⊕◌, ◌⊗◌, ring_from}
 use Rattle.lattice_algebra.proofs.Columns.{swap_times, times-times}
 use Rattle.lattice_algebra.proofs.MatrixRing.{column_at, sym_times, sym_origin, column_ring}
 use Rattle.exact_ops.specs.declared.TheConstants.{UNIT}

@@ -9,12 +9,14 @@ mod cycle;
 mod handedness;
 mod intrinsic_part;
 mod kinds;
+mod laws;
 pub mod parts;
 mod vector;
 
 pub use axes::axis;
 pub use intrinsic_part::{Frac3, intrinsic};
 pub use kinds::kind;
+pub use laws::{order_divides_length, proper_order_divides_length};
 
 #[cfg(test)]
 mod tests;
