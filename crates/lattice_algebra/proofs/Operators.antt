@@ -12,7 +12,7 @@ unimodular-∘ : (g f : Map) → IsUnimodular g.w → IsUnimodular f.w → IsUni
 unfolding ◌∘◌
 unimodular-∘ g f p q = IsUnimodular-· g.w f.w p q
 
-unimodular-undo : (g : Map) → IsUnimodular g.w → IsUnimodular (undo g).w
+pub unimodular-undo : (g : Map) → IsUnimodular g.w → IsUnimodular (undo g).w
 unfolding undo
 unimodular-undo g u = IsUnimodular-inverse g.w u
 

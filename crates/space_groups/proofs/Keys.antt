@@ -1,0 +1,279 @@
+-- Keys: two averages have one key exactly where an element carries the image of one onto that of the other; and finitely many elements are enough to find the key.
+use Rattle.std.proofs.Common.{◌≡◌, ◌++◌, ◌∷◌, [], ℕ, ◌*◌, ◌<◌, inl, inr, ◌↔◌, List, ℤ, pos, ◌*ℤ◌, ◌<ℤ◌, Contains, ap, ap₂, sym, ◌∙◌, refl, subst, arith}
+use Rattle.std.proofs.lemmas.Int.{ints}
+use Rattle.lattice_algebra.specs.Matrix.{Matrix, Column, entries, coordinates, ◌·◌, ◌·ᶜ◌, ◌+ᶜ◌, neg_column, times, scaled, origin, det, adjugate, matrix_of, column_of}
+use Rattle.lattice_algebra.specs.Operator.{Operator, modulo, AreParts}
+use Rattle.lattice_algebra.specs.Map.{Map, ◌∘◌, undo, operator_of}
+use Rattle.lattice_algebra.proofs.Ring.{var, con, ◌⊗◌, ring}
+use Rattle.lattice_algebra.proofs.MatrixRing.{matrix_at, column_at, ◌·ˢ◌, ◌·ˢᶜ◌, ◌+ˢᶜ◌, sym_times, sym_neg, sym_scaled, sym_identity, sym_origin, column_ring, matrix_ring}
+use Rattle.lattice_algebra.proofs.Remainders.{modulo_is, modulo_same, modulo_parts}
+use Rattle.lattice_algebra.proofs.Maps.{map_path}
+use Rattle.lattice_algebra.proofs.Numbers.{above, positive_product}
+use Rattle.lattice_algebra.proofs.Columns.{cancel_column, difference}
+use Rattle.finite_groups.proofs.Keys as first
+use Rattle.space_groups.specs.Space.{IsElement, ScaledPoint, moved}
+use Rattle.space_groups.specs.Averages.{Block, block_of, block_times, block_scaled, IsInImage}
+use Rattle.space_groups.specs.Regions.{IsWhole, shift_by}
+use Rattle.space_groups.specs.Keys.{carried, Key, key_of, IsBelow, ComesBefore, IsKey}
+use Rattle.space_groups.proofs.Blocks.{block_path, translation_part}
+use Rattle.space_groups.proofs.Elements.{SpaceGroup, space}
+use Rattle.space_groups.proofs.Means as means
+use Rattle.space_groups.proofs.Carried.{carried-∘, carried-number, on_blocks, image_along, carried_idempotent, IsOwn, carried_same}
+use Rattle.space_groups.proofs.Regions.{shift_in, split_shift}
+
+-- ---- the order
+
+cases_ℤ : (x y : ℤ) → (x <ℤ y → ⊥) → (y <ℤ x → ⊥) → x ≡ y
+cases_ℤ x y p q = grind (arith, ints)
+
+same_lists : (xs ys : List ℤ) → (IsBelow xs ys → ⊥) → (IsBelow ys xs → ⊥) → xs ≡ ys
+same_lists [] [] p q = refl
+same_lists [] (y ∷ ys) p q = absurd (p tt)
+same_lists (x ∷ xs) [] p q = absurd (q tt)
+same_lists (x ∷ xs) (y ∷ ys) p q =
+    let e = cases_ℤ x y (λ l. p (inl l)) (λ l. q (inl l)) in
+    ap₂ (λ (a : ℤ) (rest : List ℤ). a ∷ rest) e (same_lists xs ys (λ l. p (inr (e, l))) (λ l. q (inr (sym e, l))))
+
+pub same_entries : (m n : Matrix) → entries m ≡ entries n → m ≡ n
+same_entries m n e = ap matrix_of e
+
+pub same_coordinates : (c d : Column) → coordinates c ≡ coordinates d → c ≡ d
+same_coordinates c d e = ap column_of e
+
+pub one_of : (p q : Key) → (ComesBefore p q → ⊥) → (ComesBefore q p → ⊥) → p ≡ q
+one_of p q f g =
+    let m = same_entries p.m q.m (same_lists _ _ (λ l. g (inl l)) (λ l. f (inl l))) in
+    let t = same_coordinates p.t q.t (same_lists _ _ (λ l. f (inr (m, l))) (λ l. g (inr (sym m, l)))) in
+    λ i. record { m = m i; t = t i }
+
+key_path : (p q : Key) → p.m ≡ q.m → p.t ≡ q.t → p ≡ q
+key_path p q e f = λ i. record { m = e i; t = f i }
+
+-- ---- what an element makes of a translation
+
+first_form : (w m : Matrix) (t s v j : Column) (n u : ℤ) → (w · m) ·ᶜ v +ᶜ times (pos 1) (w ·ᶜ t +ᶜ times n s) ≡ (w · m) ·ᶜ v +ᶜ times (pos 1) (w ·ᶜ (t +ᶜ times u j) +ᶜ times n s) +ᶜ times u (w ·ᶜ neg_column j)
+unfolding ◌·◌ ◌·ᶜ◌ ◌+ᶜ◌ times neg_column
+first_form w m t s v j n u =
+    let N = var 0 in
+    let U = var 1 in
+    let W = matrix_at 2 in
+    let M = matrix_at 11 in
+    let T = column_at 20 in
+    let S = column_at 23 in
+    let V = column_at 26 in
+    let J = column_at 29 in
+    let one = con (pos 1) in
+    column_ring (n ∷ u ∷ (entries w ++ (entries m ++ (coordinates t ++ (coordinates s ++ (coordinates v ++ coordinates j))))))
+    ((W ·ˢ M) ·ˢᶜ V +ˢᶜ sym_times one (W ·ˢᶜ T +ˢᶜ sym_times N S))
+    ((W ·ˢ M) ·ˢᶜ V +ˢᶜ sym_times one (W ·ˢᶜ (T +ˢᶜ sym_times U J) +ˢᶜ sym_times N S) +ˢᶜ sym_times U (W ·ˢᶜ sym_neg J))
+    tt
+
+second_form : (w m : Matrix) (t s v j k : Column) (n u : ℤ) → (w · m) ·ᶜ v +ᶜ times (pos 1) (w ·ᶜ (t +ᶜ times u k) +ᶜ times n s) +ᶜ times u (w ·ᶜ neg_column j) ≡ (w · m) ·ᶜ v +ᶜ times (pos 1) (w ·ᶜ t +ᶜ times n s) +ᶜ times u (w ·ᶜ (k +ᶜ neg_column j))
+unfolding ◌·◌ ◌·ᶜ◌ ◌+ᶜ◌ times neg_column
+second_form w m t s v j k n u =
+    let N = var 0 in
+    let U = var 1 in
+    let W = matrix_at 2 in
+    let M = matrix_at 11 in
+    let T = column_at 20 in
+    let S = column_at 23 in
+    let V = column_at 26 in
+    let J = column_at 29 in
+    let K = column_at 32 in
+    let one = con (pos 1) in
+    column_ring (n ∷ u ∷ (entries w ++ (entries m ++ (coordinates t ++ (coordinates s ++ (coordinates v ++ (coordinates j ++ coordinates k)))))))
+    ((W ·ˢ M) ·ˢᶜ V +ˢᶜ sym_times one (W ·ˢᶜ (T +ˢᶜ sym_times U K) +ˢᶜ sym_times N S) +ˢᶜ sym_times U (W ·ˢᶜ sym_neg J))
+    ((W ·ˢ M) ·ˢᶜ V +ˢᶜ sym_times one (W ·ˢᶜ T +ˢᶜ sym_times N S) +ˢᶜ sym_times U (W ·ˢᶜ (K +ˢᶜ sym_neg J)))
+    tt
+
+-- where translations differ by whole numbers, so do those of the conjugates
+pub carried_rest : (unit n : ℕ) → 0 < unit * n → (g : Map) (a b : Block) → a.n ≡ b.n → key_of unit n a ≡ key_of unit n b → key_of unit n (carried g a) ≡ key_of unit n (carried g b)
+unfolding key_of carried block_times block_of
+carried_rest unit n h g a b number e =
+    let j = modulo_is (unit * n) h a.t in
+    let k = modulo_is (unit * n) h b.t in
+    let m : a.m ≡ b.m = ap (λ (p : Key). p.m) e in
+    let t : a.t +ᶜ times (pos (unit * n)) j.0 ≡ b.t +ᶜ times (pos (unit * n)) k.0 = sym j.1 ∙ ap (λ (p : Key). p.t) e ∙ k.1 in
+    let v = (undo g).w in
+    let s = (undo g).s in
+    key_path _ _ (ap (λ x. g.w · x · v) m)
+    (modulo_same (unit * n) h _ _ (g.w ·ᶜ (k.0 +ᶜ neg_column j.0))
+    (first_form g.w a.m a.t g.s s j.0 a.n (pos (unit * n))
+    ∙ ap₂ (λ x y. (g.w · x) ·ᶜ s +ᶜ times (pos 1) (g.w ·ᶜ y +ᶜ times a.n g.s) +ᶜ times (pos (unit * n)) (g.w ·ᶜ neg_column j.0)) m t
+    ∙ second_form g.w b.m b.t g.s s j.0 k.0 a.n (pos (unit * n))
+    ∙ ap (λ x. (g.w · b.m) ·ᶜ s +ᶜ times (pos 1) (g.w ·ᶜ b.t +ᶜ times x g.s) +ᶜ times (pos (unit * n)) (g.w ·ᶜ (k.0 +ᶜ neg_column j.0))) number))
+
+-- ---- what a whole shift makes of an average
+
+undo_shift : (unit : ℕ) (k : Column) → undo (shift_by unit k) ≡ shift_by unit (neg_column k)
+unfolding undo det adjugate scaled neg_column ◌·ᶜ◌ times
+undo_shift unit k = map_path _ _ refl (column_ring (pos unit ∷ coordinates k) (sym_neg (sym_identity ·ˢᶜ sym_times (var 0) (column_at 1))) (sym_times (var 0) (sym_neg (column_at 1))) tt)
+
+-- t + u n k - u M k
+unfoldable pub shifted : ℤ → Column → Block → Block
+shifted u k a = record { m = a.m; t = a.t +ᶜ (times (u *ℤ a.n) k +ᶜ neg_column (times u (a.m ·ᶜ k))); n = a.n }
+
+pub carried_shift : (unit : ℕ) (k : Column) (a : Block) → carried (shift_by unit k) a ≡ shifted (pos unit) k a
+unfolding carried shifted block_times block_of ◌·◌ ◌·ᶜ◌ ◌+ᶜ◌ times neg_column
+carried_shift unit k a =
+    let r = pos unit ∷ a.n ∷ (entries a.m ++ (coordinates a.t ++ coordinates k)) in
+    let U = var 0 in
+    let N = var 1 in
+    let M = matrix_at 2 in
+    let T = column_at 11 in
+    let K = column_at 14 in
+    let I = sym_identity in
+    let one = con (pos 1) in
+    ap (λ h. block_times (block_times (block_of (shift_by unit k)) a) (block_of h)) (undo_shift unit k)
+    ∙ block_path _ _
+    (matrix_ring r ((I ·ˢ M) ·ˢ I) M tt)
+    (column_ring r ((I ·ˢ M) ·ˢᶜ sym_times U (sym_neg K) +ˢᶜ sym_times one (I ·ˢᶜ T +ˢᶜ sym_times N (sym_times U K))) (T +ˢᶜ (sym_times (U ⊗ N) K +ˢᶜ sym_neg (sym_times U (M ·ˢᶜ K)))) tt)
+    (ring r ((one ⊗ N) ⊗ one) N tt)
+
+spread : (m : Matrix) (t j : Column) (u : ℤ) → times u (m ·ᶜ j) ≡ m ·ᶜ (t +ᶜ times u j) +ᶜ neg_column (m ·ᶜ t)
+unfolding ◌·ᶜ◌ ◌+ᶜ◌ times neg_column
+spread m t j u =
+    let M = matrix_at 1 in
+    let T = column_at 10 in
+    let J = column_at 13 in
+    column_ring (u ∷ (entries m ++ (coordinates t ++ coordinates j))) (sym_times (var 0) (M ·ˢᶜ J)) (M ·ˢᶜ (T +ˢᶜ sym_times (var 0) J) +ˢᶜ sym_neg (M ·ˢᶜ T)) tt
+
+no_change : (u : ℤ) → origin +ᶜ neg_column origin ≡ times u origin
+unfolding ◌+ᶜ◌ times neg_column
+no_change u = column_ring (u ∷ []) (sym_origin +ˢᶜ sym_neg sym_origin) (sym_times (var 0) sym_origin) tt
+
+add_nothing : (t k : Column) (u : ℤ) → t +ᶜ (k +ᶜ neg_column (times u origin)) ≡ t +ᶜ k
+unfolding ◌+ᶜ◌ times neg_column
+add_nothing t k u = column_ring (u ∷ (coordinates t ++ coordinates k)) (column_at 1 +ˢᶜ (column_at 4 +ˢᶜ sym_neg (sym_times (var 0) sym_origin))) (column_at 1 +ˢᶜ column_at 4) tt
+
+-- idempotent blocks that agree but for whole numbers are carried onto each other by a whole shift
+pub same_by_shift : (unit n : ℕ) → 0 < unit → 0 < n → (a b : Block) → a.n ≡ pos n → b.n ≡ pos n → block_times a a ≡ block_scaled a.n a → block_times b b ≡ block_scaled b.n b → key_of unit n a ≡ key_of unit n b → (k : Column) × (carried (shift_by unit k) a ≡ b)
+unfolding key_of shifted
+same_by_shift unit n hu hn a b p q two two' e =
+    let h = positive_product unit n hu hn in
+    let i = modulo_is (unit * n) h a.t in
+    let j = modulo_is (unit * n) h b.t in
+    let un : ℤ = pos (unit * n) in
+    let m : a.m ≡ b.m = ap (λ (v : Key). v.m) e in
+    let k : Column = i.0 +ᶜ neg_column j.0 in
+    let t : b.t ≡ a.t +ᶜ times un k = difference b.t a.t j.0 i.0 un (sym (sym i.1 ∙ ap (λ (v : Key). v.t) e ∙ j.1)) in
+    let there : a.m ·ᶜ (a.t +ᶜ times un k) ≡ origin = ap₂ (λ x y. x ·ᶜ y) m (sym t) ∙ translation_part b two' in
+    let none : a.m ·ᶜ k ≡ origin = cancel_column un _ _ (above (unit * n) h) (spread a.m a.t k un ∙ ap₂ (λ x y. x +ᶜ neg_column y) there (translation_part a two) ∙ no_change un) in (
+      k,
+      carried_shift unit k a ∙ block_path _ _ m (ap₂ (λ x y. a.t +ᶜ (times (pos unit *ℤ x) k +ᶜ neg_column (times (pos unit) y))) p none ∙ add_nothing a.t (times un k) (pos unit) ∙ sym t) (p ∙ sym q),
+    )
+
+-- ---- finitely many elements are enough
+
+candidate_form : (w m v : Matrix) (t s j : Column) (u q n : ℤ) → (w · m) ·ᶜ neg_column (v ·ᶜ (s +ᶜ times u (times q j))) +ᶜ times (pos 1) (w ·ᶜ t +ᶜ times n (s +ᶜ times u (times q j)))
+    ≡ (w · m) ·ᶜ neg_column (v ·ᶜ s) +ᶜ times (pos 1) (w ·ᶜ t +ᶜ times n s) +ᶜ (times (u *ℤ n) (times q j) +ᶜ neg_column (times u ((w · scaled q m · v) ·ᶜ j)))
+unfolding ◌·◌ ◌·ᶜ◌ ◌+ᶜ◌ times neg_column scaled
+candidate_form w m v t s j u q n =
+    let U = var 0 in
+    let Q = var 1 in
+    let N = var 2 in
+    let W = matrix_at 3 in
+    let M = matrix_at 12 in
+    let V = matrix_at 21 in
+    let T = column_at 30 in
+    let S = column_at 33 in
+    let J = column_at 36 in
+    let one = con (pos 1) in
+    let far = S +ˢᶜ sym_times U (sym_times Q J) in
+    column_ring (u ∷ q ∷ n ∷ (entries w ++ (entries m ++ (entries v ++ (coordinates t ++ (coordinates s ++ coordinates j))))))
+    ((W ·ˢ M) ·ˢᶜ sym_neg (V ·ˢᶜ far) +ˢᶜ sym_times one (W ·ˢᶜ T +ˢᶜ sym_times N far))
+    ((W ·ˢ M) ·ˢᶜ sym_neg (V ·ˢᶜ S) +ˢᶜ sym_times one (W ·ˢᶜ T +ˢᶜ sym_times N S) +ˢᶜ (sym_times (U ⊗ N) (sym_times Q J) +ˢᶜ sym_neg (sym_times U ((W ·ˢ sym_scaled Q M ·ˢ V) ·ˢᶜ J))))
+    tt
+
+whole_form : (w r v : Matrix) (j : Column) (u q n : ℤ) → times (u *ℤ n) (times q j) +ᶜ neg_column (times u ((w · scaled n r · v) ·ᶜ j)) ≡ times (u *ℤ n) (times q j +ᶜ neg_column ((w · r · v) ·ᶜ j))
+unfolding ◌·◌ ◌·ᶜ◌ ◌+ᶜ◌ times neg_column scaled
+whole_form w r v j u q n =
+    let U = var 0 in
+    let Q = var 1 in
+    let N = var 2 in
+    let W = matrix_at 3 in
+    let R = matrix_at 12 in
+    let V = matrix_at 21 in
+    let J = column_at 30 in
+    column_ring (u ∷ q ∷ n ∷ (entries w ++ (entries r ++ (entries v ++ coordinates j))))
+    (sym_times (U ⊗ N) (sym_times Q J) +ˢᶜ sym_neg (sym_times U ((W ·ˢ sym_scaled N R ·ˢ V) ·ˢᶜ J)))
+    (sym_times (U ⊗ N) (sym_times Q J +ˢᶜ sym_neg ((W ·ˢ R ·ˢ V) ·ˢᶜ J)))
+    tt
+
+regroup : (t k j : Column) (u : ℤ) → t +ᶜ times u (k +ᶜ j) ≡ t +ᶜ times u k +ᶜ times u j
+unfolding ◌+ᶜ◌ times
+regroup t k j u = let U = var 0 in column_ring (u ∷ (coordinates t ++ (coordinates k ++ coordinates j))) (column_at 1 +ˢᶜ sym_times U (column_at 4 +ˢᶜ column_at 7)) (column_at 1 +ˢᶜ sym_times U (column_at 4) +ˢᶜ sym_times U (column_at 7)) tt
+
+-- maps that differ by q times a whole shift give one key
+same_candidate : (unit q n : ℕ) → 0 < unit * n → (r : Matrix) (a : Block) → a.n ≡ pos n → IsWhole q r a → (w : Matrix) (s j : Column)
+    → key_of unit n (carried (record { w = w; s = s +ᶜ times (pos unit) (times (pos q) j) }) a) ≡ key_of unit n (carried (record { w = w; s = s }) a)
+unfolding key_of carried block_times block_of undo
+same_candidate unit q n h r a number whole w s j =
+    let v = (undo (record { w = w; s = s })).w in
+    let u = pos unit in
+    key_path _ _ refl (modulo_same (unit * n) h _ _ (times (pos q) j +ᶜ neg_column ((w · r · v) ·ᶜ j))
+    (candidate_form w a.m v a.t s j u (pos q) a.n
+    ∙ ap (λ m. (w · a.m) ·ᶜ neg_column (v ·ᶜ s) +ᶜ times (pos 1) (w ·ᶜ a.t +ᶜ times a.n s) +ᶜ (times (u *ℤ a.n) (times (pos q) j) +ᶜ neg_column (times u ((w · m · v) ·ᶜ j)))) whole
+    ∙ ap (λ c. (w · a.m) ·ᶜ neg_column (v ·ᶜ s) +ᶜ times (pos 1) (w ·ᶜ a.t +ᶜ times a.n s) +ᶜ c) (whole_form w r v j u (pos q) a.n ∙ ap (λ k. times (u *ℤ k) (times (pos q) j +ᶜ neg_column ((w · r · v) ·ᶜ j))) number)))
+
+module _ (L : SpaceGroup) where
+  open L use {unit, some, members, closed}
+
+  -- the element of a member with a whole shift
+  abbrev pub element_of : Operator → Column → Map
+  element_of f k = record { w = f.w; s = f.t +ᶜ times (pos unit) k }
+
+  pub candidate : (q n : ℕ) → 0 < q → 0 < n → (r : Matrix) (a : Block) → a.n ≡ pos n → IsWhole q r a → (g : Map) → IsElement unit members g
+      → (f : Operator) × (k : Column) × Contains members f × AreParts q k × (key_of unit n (carried g a) ≡ key_of unit n (carried (element_of f k) a))
+  unfolding operator_of
+  candidate q n hq hn r a number whole g m =
+      let c = modulo_is unit some g.s in
+      let k0 = neg_column c.0 in
+      let d = modulo_is q hq k0 in
+      let k = modulo q k0 in
+      let j = neg_column d.0 in
+      let is : g.s ≡ (modulo unit g.s +ᶜ times (pos unit) k) +ᶜ times (pos unit) (times (pos q) j) =
+      split_shift g.s (modulo unit g.s) c.0 (pos unit) c.1 ∙ ap (λ v. modulo unit g.s +ᶜ times (pos unit) v) (split_shift k0 k d.0 (pos q) d.1) ∙ regroup (modulo unit g.s) k (times (pos q) j) (pos unit) in (
+        operator_of unit g,
+        k,
+        m,
+        modulo_parts q hq k0,
+        ap (λ s. key_of unit n (carried (record { w = g.w; s = s }) a)) is ∙ same_candidate unit q n (positive_product unit n some hn) r a number whole g.w (modulo unit g.s +ᶜ times (pos unit) k) j,
+      )
+
+  -- what the loop over members and shifts below q finds is the key
+  pub key_from_candidates : (q n : ℕ) → 0 < q → 0 < n → (r : Matrix) (a : Block) → a.n ≡ pos n → IsWhole q r a → (p : Key) (g : Map) → IsElement unit members g → key_of unit n (carried g a) ≡ p
+      → ((f : Operator) (k : Column) → Contains members f → AreParts q k → ComesBefore (key_of unit n (carried (element_of f k) a)) p → ⊥) → IsKey unit members n a p
+  key_from_candidates q n hq hn r a number whole p g m e h = record {
+    by = g;
+    element = m;
+    gives = e;
+    first = λ g' m' l. let c = candidate q n hq hn r a number whole g' m' in h c.0 c.1 c.2 c.3 (subst (λ v. ComesBefore v p) c.4 l);
+  }
+
+  module _ (n : ℕ) (n_some : 0 < n) where
+    same_key : (a b : Block) (p p' : Key) → a.n ≡ pos n → b.n ≡ pos n → IsKey unit members n a p → IsKey unit members n b p' → (p ≡ p') ↔ ((g : Map) × IsElement unit members g × (key_of unit n (carried g a) ≡ key_of unit n b))
+    same_key a b p p' x y f h =
+        first.same_key ComesBefore one_of (space L) (on_blocks L) (λ c. c.n ≡ pos n) (λ g c e. carried-number g c ∙ e) (key_of unit n)
+        (λ g c d _ e e'. carried_rest unit n (positive_product unit n some n_some) g c d (e ∙ sym e')) a b p p' x y
+        (record { by = f.by; element = f.element; gives = f.gives; first = f.first }) (record { by = h.by; element = h.element; gives = h.gives; first = h.first })
+
+    same_rest_same_image : (a b : Block) → a.n ≡ pos n → b.n ≡ pos n → block_times a a ≡ block_scaled a.n a → block_times b b ≡ block_scaled b.n b → (g : Map) → IsElement unit members g → key_of unit n (carried g a) ≡ key_of unit n b
+        → (h : Map) × IsElement unit members h × ((y : ScaledPoint) → IsInImage a y ↔ IsInImage b (moved h y))
+    same_rest_same_image a b x y two two' g m e =
+        let s = same_by_shift unit n some n_some (carried g a) b (carried-number g a ∙ x) y (carried_idempotent L g a m two) two' e in
+        let h : Map = shift_by unit s.0 in
+        let i : IsElement unit members h = shift_in L s.0 in
+        let j : IsElement unit members (h ∘ g) = (space L).mul_in h g i m in
+        (h ∘ g, j, image_along L (h ∘ g) a b j (carried-∘ L h g a i m ∙ s.1))
+
+    -- averages of all that fixes their images have one key exactly where an element carries the image of one onto that of the other
+    pub same_key_same_image : (a b : Block) (p p' : Key) (fs hs : List Map) → IsOwn L n fs a → IsOwn L n hs b → IsKey unit members n a p → IsKey unit members n b p'
+        → (p ≡ p') ↔ ((g : Map) × IsElement unit members g × ((y : ScaledPoint) → IsInImage a y ↔ IsInImage b (moved g y)))
+    same_key_same_image a b p p' fs hs o o' f h =
+        let x = means.number L n n_some fs o.closed a o.mean in
+        let y = means.number L n n_some hs o'.closed b o'.mean in
+        let k = same_key a b p p' x y f h in (
+          (λ e. same_rest_same_image a b x y (means.idempotent_itself L n n_some fs o.closed a o.mean) (means.idempotent_itself L n n_some hs o'.closed b o'.mean) (k.0 e).0 (k.0 e).1 (k.0 e).2),
+          (λ r. k.1 (r.0, r.1, ap (key_of unit n) (carried_same L n n_some a b fs hs o o' r.0 r.1 r.2))),
+        )

@@ -1,0 +1,23 @@
+pub mod ScaledPoints
+pub mod Elements
+pub mod Blocks
+pub mod Means
+pub mod Carried
+pub mod Regions
+pub mod Generic
+pub mod Keys
+pub mod Sites
+pub mod Orbits
+pub mod Rows
+pub mod Points
+pub mod OrbitLists
+pub mod Headline
+pub mod Divided
+pub mod Near
+pub mod PointKeys
+mod OneOperator
+pub mod Growing
+pub mod NearOrigin
+pub mod Ordered
+pub mod Search
+pub mod Theorem

@@ -1,0 +1,140 @@
+-- The key of a row is the key of each point that fits it, so the rows are the list of all pairs of a number of images and a key.
+use Rattle.std.proofs.Common.{◌≡◌, ℕ, ◌<◌, ◌≤◌, ◌↔◌, List, length, map, get_or, pos, Contains, ap, sym, ◌∙◌, refl, subst, arith}
+use Rattle.std.specs.List.{IsDistinct}
+use Rattle.std.proofs.lemmas.List.{length-map}
+use Rattle.std.proofs.lemmas.List.Elements.{All-contains, Contains-get_or}
+use Rattle.std.proofs.lemmas.Map.Made.{AllPairs-from_IsDistinct, IsDistinct-from_AllPairs}
+use Rattle.lattice_algebra.specs.Point.{Point, IsPoint, ◌≈◌, image}
+use Rattle.lattice_algebra.specs.Map.{Map, ◌∘◌, identity_map, undo}
+use Rattle.lattice_algebra.proofs.Maps.{map_eq, map_eq-is}
+use Rattle.lattice_algebra.proofs.Points.{≈_trans, IsPoint-image}
+use Rattle.lattice_algebra.proofs.Numbers.{above}
+use Rattle.finite_groups.specs.Words.{IsClosedList}
+use Rattle.finite_groups.proofs.Members as lists
+use Rattle.finite_groups.proofs.Totals.{total-same}
+use Rattle.finite_groups.proofs.Conjugates as conjugates
+use Rattle.space_groups.specs.Space.{IsElement, ScaledPoint, moved, point_of}
+use Rattle.space_groups.specs.Averages.{IsInImage, Block, block_of, block_scaled, sum_of, IsMean}
+use Rattle.space_groups.specs.Keys.{carried, Key, key_of, ComesBefore}
+use Rattle.space_groups.specs.Rows.{row_point, Fits, IsSpecial, IsPointKey}
+use Rattle.space_groups.specs.Lists.{IsOrbitList, IsSiteList}
+use Rattle.space_groups.proofs.ScaledPoints.{moved-∘, moved-identity}
+use Rattle.space_groups.proofs.Blocks.{block_sums, cancel_block}
+use Rattle.space_groups.proofs.Elements.{SpaceGroup, space, on_points}
+use Rattle.space_groups.proofs.Means as means
+use Rattle.space_groups.proofs.Means.{sum_is}
+use Rattle.space_groups.proofs.Near.{turned, carried_mean, turned_distinct}
+use Rattle.space_groups.proofs.Divided.{mean_exists}
+use Rattle.space_groups.proofs.Sites.{site, site_is, site_distinct}
+use Rattle.space_groups.proofs.Points.{IsPoint-scaled, image_of, scaled_of, site-scaled}
+use Rattle.space_groups.proofs.Rows.{some_members, image_lies, AreNarrow, AreKept, FitsScaled, has_group, own}
+
+-- lists that have the same maps, each once, have the same average
+pub mean_once : (n : ℕ) (xs ys : List Map) (a b : Block) → IsDistinct map_eq xs → IsDistinct map_eq ys → ((e : Map) → Contains xs e ↔ Contains ys e) → 0 < length xs → IsMean n xs a → IsMean n ys b → a ≡ b
+mean_once n xs ys a b d d' same some p q =
+    let le : length xs ≤ length ys = lists.pigeonhole map_eq map_eq-is xs ys d (λ e c. (same e).0 c) in
+    let ge : length ys ≤ length xs = lists.pigeonhole map_eq map_eq-is ys xs d' (λ e c. (same e).1 c) in
+    let l : length xs ≡ length ys = omega (arith, le, ge) in
+    let s : sum_of xs ≡ sum_of ys = sum_is xs ∙ total-same block_sums map_eq map_eq-is block_of xs ys d d' same ∙ sym (sum_is ys) in
+    cancel_block (pos (length xs)) a b (above (length xs) some) (p ∙ ap (block_scaled (pos n)) s ∙ sym q ∙ ap (λ k. block_scaled (pos k) b) (sym l))
+
+module _ (L : SpaceGroup) where
+  open L use {unit, some, members, closed}
+
+  site_closed : (y : ScaledPoint) → IsClosedList (space L) (site L y)
+  site_closed y = record {
+    distinct = site_distinct L y;
+    valid = λ k d l. ((site_is L y (get_or (site L y) k d)).0 (Contains-get_or (site L y) k d l)).0;
+    has_one = (site_is L y identity_map).1 ((space L).one_in, moved-identity y);
+    closed = λ e f p q.
+        let a = (site_is L y e).0 p in
+        let b = (site_is L y f).0 q in
+        (site_is L y (e ∘ f)).1 ((space L).mul_in e f a.0 b.0, moved-∘ e f y ∙ ap (moved e) b.1 ∙ a.1);
+  }
+
+  -- the list of a point's site-symmetry group is that of its spot
+  site_list : (x : Point) (y : ScaledPoint) → IsPoint x → x ≈ point_of unit y → IsSiteList unit members x (site L y)
+  site_list x y p e = record {
+    exactly = λ g. let a = site_is L y g in let b = site-scaled L x y p e g in ((λ c. b.1 (a.0 c)), (λ s. a.1 (b.0 s)));
+    once = AllPairs-from_IsDistinct map_eq-is (site L y) (site_distinct L y);
+  }
+
+  special_is : (x : Point) (y : ScaledPoint) (a : Block) → IsPoint x → x ≈ point_of unit y → IsSpecial unit members x a → IsMean (length members) (site L y) a
+  special_is x y a p e s =
+      let m = mean_exists L (site L y) (site_closed y) in
+      let same : (g : Map) → Contains (site L y) g ↔ Contains s.site g = λ g. let b = site-scaled L x y p e g in ((λ c. (s.is_site.exactly g).1 (b.1 ((site_is L y g).0 c))), (λ c. (site_is L y g).1 (b.0 ((s.is_site.exactly g).0 c)))) in
+      subst (IsMean (length members) (site L y)) (mean_once (length members) (site L y) s.site m.0 a (site_distinct L y) (IsDistinct-from_AllPairs map_eq-is s.site s.is_site.once) same (omega (arith, (site_closed y).has_one.1)) m.1 s.mean) m.1
+
+  -- where the group of y is fs, that of h y is h fs h^-1
+  turned_site : (h : Map) (y : ScaledPoint) (fs : List Map) → IsElement unit members h → ((e : Map) → Contains (site L y) e ↔ Contains fs e) → (e : Map) → Contains (map (turned h) fs) e ↔ Contains (site L (moved h y)) e
+  turned_site h y fs m same e = (
+    (λ c.
+        let r = lists.Contains-from_map (turned h) e fs c in
+        let s = (site_is L y r.0).0 ((same r.0).1 r.1) in
+        subst (Contains (site L (moved h y))) r.2 ((site_is L (moved h y) (turned h r.0)).1 ((conjugates.site_moved (space L) (on_points L) h r.0 y m s.0).0 s))),
+    (λ c.
+        let t = (site_is L (moved h y) e).0 c in
+        let s : Map = (undo h ∘ e) ∘ h in
+        let sin : IsElement unit members s = (space L).mul_in (undo h ∘ e) h ((space L).mul_in (undo h) e ((space L).inv_in h m) t.0) m in
+        let q : turned h s ≡ e = conjugates.conj_onto (space L) (on_points L) h e m t.0 in
+        let k = (conjugates.site_moved (space L) (on_points L) h s y m sin).1 (subst (λ v. IsElement unit members v × (moved v (moved h y) ≡ moved h y)) (sym q) t) in
+        subst (Contains (map (turned h) fs)) q (lists.Contains-map (turned h) s fs ((same s).0 ((site_is L y s).1 k)))),
+  )
+
+  -- the average of the group of h y is the carried average of the group of y
+  special_moved : (h : Map) (y : ScaledPoint) (fs : List Map) (a b : Block) → IsElement unit members h → ((e : Map) → Contains (site L y) e ↔ Contains fs e) → IsClosedList (space L) fs → IsMean (length members) fs a → IsMean (length members) (site L (moved h y)) b → carried h a ≡ b
+  special_moved h y fs a b m same c p q =
+      mean_once (length members) (map (turned h) fs) (site L (moved h y)) (carried h a) b
+      (turned_distinct L h fs m (λ e d. All-contains (IsElement unit members) fs e c.valid d) c.distinct)
+      (site_distinct L (moved h y)) (turned_site h y fs m same) (omega (arith, c.has_one.1, length-map fs (turned h))) (carried_mean h (length members) fs a p) q
+
+  module _ (narrow : AreNarrow members) (K : Type 0) (kept : AreKept L K) where
+    -- the key of a row is the key of each point that fits it
+    pub key_of_point : (k : K) (x : Point) (y : ScaledPoint) → IsPoint x → x ≈ point_of unit y → FitsScaled L narrow K kept k y → IsPointKey unit members x (kept.key k)
+    key_of_point k x y p e f =
+        let g = has_group L narrow K kept k y f in
+        let o = own L narrow K kept k in
+        let z : ScaledPoint = moved g.0 y in
+        let i : IsElement unit members (undo g.0) = (space L).inv_in g.0 g.1 in
+        let avg = kept.average k in
+        let key = kept.is_key k in
+        -- the average of the group of the image by h
+        let at : (h : Map) (b : Block) → IsElement unit members h → IsSpecial unit members (image unit h x) b → carried (h ∘ undo g.0) avg ≡ b =
+        λ h b m s.
+        let there : moved (h ∘ undo g.0) z ≡ moved h y = moved-∘ h (undo g.0) z ∙ ap (moved h) (conjugates.act_back (space L) (on_points L) g.0 y g.1) in
+        special_moved (h ∘ undo g.0) z _ avg b ((space L).mul_in h (undo g.0) m i) g.2 o.closed o.mean
+        (subst (λ v. IsMean (length members) (site L v) b) (sym there) (special_is (image unit h x) (moved h y) b (IsPoint-image unit some h x p) (image_of L x y h e) s)) in
+        let h : Map = key.by ∘ g.0 in
+        let m : IsElement unit members h = (space L).mul_in key.by g.0 key.element g.1 in
+        let b = mean_exists L (site L (moved h y)) (site_closed (moved h y)) in
+        let s : IsSpecial unit members (image unit h x) b.0 = record { site = site L (moved h y); is_site = site_list (image unit h x) (moved h y) (IsPoint-image unit some h x p) (image_of L x y h e); mean = b.1 } in
+        let same : carried key.by avg ≡ b.0 = special_moved key.by z _ avg b.0 key.element g.2 o.closed o.mean (subst (λ v. IsMean (length members) (site L v) b.0) (moved-∘ key.by g.0 y) b.1) in
+        record {
+          by = h;
+          element = m;
+          special = b.0;
+          is_special = s;
+          gives = ap (key_of unit (length members)) (sym same) ∙ key.gives;
+          first = λ h' b' m' s' l. key.first (h' ∘ undo g.0) ((space L).mul_in h' (undo g.0) m' i) (subst (λ v. ComesBefore (key_of unit (length members) v) (kept.key k)) (sym (at h' b' m' s')) l);
+        }
+
+  -- a point fits the row of its own key and number of images: so the row of a point is found by its key
+  pub fits_own_key : (x : Point) (p : Key) (list : List Point) → IsPoint x → IsPointKey unit members x p → IsOrbitList unit members x list → Fits unit members (record { mult = length list; key = p }) x
+  fits_own_key x p list h k o =
+      let y = scaled_of unit some x h in
+      let g : Map = k.by in
+      let z : ScaledPoint = moved g y.0 in
+      let gx = image unit g x in
+      let e : gx ≈ point_of unit z = image_of L x y.0 g y.1 in
+      let a = k.special in
+      let mean : IsMean (length members) (site L z) a = special_is gx z a (IsPoint-image unit some g x h) e k.is_special in
+      let inside : IsInImage a z = means.fixed_image L (length members) (some_members L) (site L z) (site_closed z) a mean z (λ s c. ((site_is L z s).0 c).1) in
+      let lies = image_lies L a p z (means.number L (length members) (some_members L) (site L z) (site_closed z) a mean) k.gives inside in
+      record {
+        by = g;
+        element = k.element;
+        lies = record { at = lies.at; is_point = lies.is_point; whole = lies.whole; equal = ≈_trans gx (point_of unit z) (row_point unit (length members) p lies.at lies.whole) (IsPoint-scaled unit some z) e lies.equal };
+        orbit = list;
+        is_orbit = o;
+        as_many = refl;
+      }

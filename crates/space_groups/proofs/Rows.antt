@@ -1,0 +1,359 @@
+-- The kept sets of the search are the rows of a table.
+use Rattle.std.proofs.Common.{◌≡◌, ◌++◌, ◌∷◌, [], ℕ, ◌*◌, ◌<◌, ◌≤◌, ◌↔◌, List, length, ℤ, pos, negsuc, ◌*ℤ◌, ◌<ℤ◌, Contains, ap, ap₂, sym, ◌∙◌, refl, subst, arith, ⊎_elim}
+use Rattle.std.proofs.lemmas.Int.{ints}
+use Rattle.std.proofs.lemmas.List.Elements.{All-contains}
+use Rattle.lattice_algebra.specs.Matrix.{Matrix, Column, entries, coordinates, ◌·◌, ◌·ᶜ◌, ◌+ᶜ◌, neg_column, times, scaled, origin, identity}
+use Rattle.lattice_algebra.specs.Operator.{Operator, HasEntriesWithin}
+use Rattle.lattice_algebra.specs.Map.{Map, ◌∘◌, identity_map, undo, operator_of}
+use Rattle.lattice_algebra.proofs.Ring.{var, ◌⊗◌}
+use Rattle.lattice_algebra.proofs.MatrixRing.{matrix_at, column_at, ◌·ˢ◌, ◌·ˢᶜ◌, ◌+ˢᶜ◌, sym_times, sym_neg, sym_scaled, sym_origin, sym_identity, column_ring}
+use Rattle.lattice_algebra.proofs.Remainders.{modulo_is}
+use Rattle.lattice_algebra.proofs.Numbers.{above, positive_product}
+use Rattle.lattice_algebra.proofs.Columns.{cancel_column, swap_times}
+use Rattle.finite_groups.specs.Words.{IsClosedList}
+use Rattle.finite_groups.proofs.Members as lists
+use Rattle.finite_groups.proofs.Conjugates as conjugates
+use Rattle.finite_groups.proofs.Table as table
+use Rattle.space_groups.specs.Space.{IsElement, ScaledPoint, moved, point_of}
+use Rattle.space_groups.specs.Averages.{Block, block_times, block_scaled, IsMean, IsInImage}
+use Rattle.space_groups.specs.Regions.{Sizes, IsWhole, IsReach, IsInBox, shift_by}
+use Rattle.space_groups.specs.Keys.{carried, Key, key_of, IsKey}
+use Rattle.space_groups.specs.Rows.{Lies, row_point}
+use Rattle.space_groups.specs.Search.{FixAll}
+use Rattle.space_groups.proofs.ScaledPoints.{moved-∘, moved-identity}
+use Rattle.space_groups.proofs.Elements.{SpaceGroup, space, on_points}
+use Rattle.space_groups.proofs.Means as means
+use Rattle.space_groups.proofs.Means.{Keeps}
+use Rattle.space_groups.proofs.Carried.{carried-number, image_carried, image_carried_back, carried_idempotent, IsOwn}
+use Rattle.space_groups.proofs.Regions.{shift_in, move_near, near_in_box}
+use Rattle.space_groups.proofs.Generic.{mean_within, generic}
+use Rattle.space_groups.proofs.Keys.{same_key_same_image}
+use Rattle.space_groups.proofs.Sites.{site, sites, site_is, full, full_own}
+use Rattle.space_groups.proofs.Orbits.{orbit, order_times_multiplicity}
+use Rattle.space_groups.proofs.Blocks.{matrix_part, translation_part}
+
+-- the matrices of the operators have entries of size at most 2
+abbrev pub AreNarrow : List Operator → Type 0
+AreNarrow members = (f : Operator) → Contains members f → HasEntriesWithin 2 f.w
+
+-- ---- what lies on a printed row
+
+first : (m : Matrix) (z t : Column) (u e : ℤ) → m ·ᶜ (times u (m ·ᶜ z) +ᶜ times e t) ≡ times u ((m · m) ·ᶜ z) +ᶜ times e (m ·ᶜ t)
+unfolding ◌·◌ ◌·ᶜ◌ ◌+ᶜ◌ times
+first m z t u e =
+    let U = var 0 in
+    let E = var 1 in
+    let M = matrix_at 2 in
+    let Z = column_at 11 in
+    let T = column_at 14 in
+    column_ring (u ∷ e ∷ (entries m ++ (coordinates z ++ coordinates t))) (M ·ˢᶜ (sym_times U (M ·ˢᶜ Z) +ˢᶜ sym_times E T)) (sym_times U ((M ·ˢ M) ·ˢᶜ Z) +ˢᶜ sym_times E (M ·ˢᶜ T)) tt
+
+second : (m : Matrix) (z : Column) (u e n : ℤ) → times u (scaled n m ·ᶜ z) +ᶜ times e origin ≡ times n (times u (m ·ᶜ z))
+unfolding ◌·ᶜ◌ ◌+ᶜ◌ times scaled
+second m z u e n =
+    let U = var 0 in
+    let E = var 1 in
+    let N = var 2 in
+    let M = matrix_at 3 in
+    let Z = column_at 12 in
+    column_ring (u ∷ e ∷ n ∷ (entries m ++ coordinates z)) (sym_times U (sym_scaled N M ·ˢᶜ Z) +ˢᶜ sym_times E sym_origin) (sym_times N (sym_times U (M ·ˢᶜ Z))) tt
+
+-- c = u M z + e t, which M takes to N u M z
+taken : (m : Matrix) (z t : Column) (u e n : ℤ) → m · m ≡ scaled n m → m ·ᶜ t ≡ origin → m ·ᶜ (times u (m ·ᶜ z) +ᶜ times e t) ≡ times n (times u (m ·ᶜ z))
+taken m z t u e n mm mt = first m z t u e ∙ ap₂ (λ x y. times u (x ·ᶜ z) +ᶜ times e y) mm mt ∙ second m z u e n
+
+-- the moved point, times the denominator: D (y + d u k') = u d c
+row_moved : (y c t j k : Column) (u d n e : ℤ) → times (u *ℤ n *ℤ e) y ≡ times (u *ℤ d) (c +ᶜ times e (t +ᶜ times (u *ℤ n) j) +ᶜ times (u *ℤ n *ℤ e) k)
+    → times (u *ℤ n *ℤ e) (identity ·ᶜ y +ᶜ times d (times u (neg_column (k +ᶜ j)))) ≡ times (u *ℤ d) (c +ᶜ times e t)
+unfolding ◌·ᶜ◌ ◌+ᶜ◌ times neg_column
+row_moved y c t j k u d n e h =
+    let U = var 0 in
+    let D = var 1 in
+    let N = var 2 in
+    let E = var 3 in
+    let Y = column_at 4 in
+    let C = column_at 7 in
+    let T = column_at 10 in
+    let J = column_at 13 in
+    let K = column_at 16 in
+    let W = U ⊗ N ⊗ E in
+    let r = u ∷ d ∷ n ∷ e ∷ (coordinates y ++ (coordinates c ++ (coordinates t ++ (coordinates j ++ coordinates k)))) in
+    column_ring r (sym_times W (sym_identity ·ˢᶜ Y +ˢᶜ sym_times D (sym_times U (sym_neg (K +ˢᶜ J))))) (sym_times W Y +ˢᶜ sym_neg (sym_times (U ⊗ D) (sym_times W (K +ˢᶜ J)))) tt
+    ∙ ap (λ v. v +ᶜ neg_column (times (u *ℤ d) (times (u *ℤ n *ℤ e) (k +ᶜ j)))) h
+    ∙ column_ring r (sym_times (U ⊗ D) (C +ˢᶜ sym_times E (T +ˢᶜ sym_times (U ⊗ N) J) +ˢᶜ sym_times W K) +ˢᶜ sym_neg (sym_times (U ⊗ D) (sym_times W (K +ˢᶜ J)))) (sym_times (U ⊗ D) (C +ˢᶜ sym_times E T)) tt
+
+spread_out : (m : Matrix) (p t : Column) (w d : ℤ) → times w (m ·ᶜ p +ᶜ times d t) ≡ m ·ᶜ times w p +ᶜ times (w *ℤ d) t
+unfolding ◌·ᶜ◌ ◌+ᶜ◌ times
+spread_out m p t w d =
+    let W = var 0 in
+    let D = var 1 in
+    let M = matrix_at 2 in
+    let P = column_at 11 in
+    let T = column_at 14 in
+    column_ring (w ∷ d ∷ (entries m ++ (coordinates p ++ coordinates t))) (sym_times W (M ·ˢᶜ P +ˢᶜ sym_times D T)) (M ·ˢᶜ sym_times W P +ˢᶜ sym_times (W ⊗ D) T) tt
+
+pull : (m : Matrix) (c t : Column) (w x : ℤ) → m ·ᶜ times w c +ᶜ times x t ≡ times w (m ·ᶜ c) +ᶜ times x t
+unfolding ◌·ᶜ◌ ◌+ᶜ◌ times
+pull m c t w x =
+    let W = var 0 in
+    let X = var 1 in
+    let M = matrix_at 2 in
+    let C = column_at 11 in
+    let T = column_at 14 in
+    column_ring (w ∷ x ∷ (entries m ++ (coordinates c ++ coordinates t))) (M ·ˢᶜ sym_times W C +ˢᶜ sym_times X T) (sym_times W (M ·ˢᶜ C) +ˢᶜ sym_times X T) tt
+
+gather : (c t : Column) (u d n e : ℤ) → times (u *ℤ d) (times n c) +ᶜ times (u *ℤ n *ℤ e *ℤ d) t ≡ times n (times (u *ℤ d) (c +ᶜ times e t))
+unfolding ◌+ᶜ◌ times
+gather c t u d n e =
+    let U = var 0 in
+    let D = var 1 in
+    let N = var 2 in
+    let E = var 3 in
+    let C = column_at 4 in
+    let T = column_at 7 in
+    column_ring (u ∷ d ∷ n ∷ e ∷ (coordinates c ++ coordinates t)) (sym_times (U ⊗ D) (sym_times N C) +ˢᶜ sym_times (U ⊗ N ⊗ E ⊗ D) T) (sym_times N (sym_times (U ⊗ D) (C +ˢᶜ sym_times E T))) tt
+
+-- what the average makes of it
+row_image : (m : Matrix) (p z t : Column) (u d n e : ℤ) → times (u *ℤ n *ℤ e) p ≡ times (u *ℤ d) (times u (m ·ᶜ z) +ᶜ times e t) → m · m ≡ scaled n m → m ·ᶜ t ≡ origin
+    → times (u *ℤ n *ℤ e) (m ·ᶜ p +ᶜ times d t) ≡ times (u *ℤ n *ℤ e) (times n p)
+row_image m p z t u d n e h mm mt =
+    spread_out m p t (u *ℤ n *ℤ e) d ∙ ap (λ v. m ·ᶜ v +ᶜ times (u *ℤ n *ℤ e *ℤ d) t) h ∙ pull m (times u (m ·ᶜ z) +ᶜ times e t) t (u *ℤ d) (u *ℤ n *ℤ e *ℤ d)
+    ∙ ap (λ v. times (u *ℤ d) v +ᶜ times (u *ℤ n *ℤ e *ℤ d) t) (taken m z t u e n mm mt) ∙ gather (times u (m ·ᶜ z)) t u d n e ∙ ap (times n) (sym h) ∙ swap_times n (u *ℤ n *ℤ e) p
+
+row_here : (m : Matrix) (p t j : Column) (u d n : ℤ) → times (u *ℤ d) (times u (m ·ᶜ p) +ᶜ times (u *ℤ d) (t +ᶜ times (u *ℤ n) j) +ᶜ times (u *ℤ n *ℤ (u *ℤ d)) (neg_column j)) ≡ times (u *ℤ d) (times u (m ·ᶜ p +ᶜ times d t))
+unfolding ◌·ᶜ◌ ◌+ᶜ◌ times neg_column
+row_here m p t j u d n =
+    let U = var 0 in
+    let D = var 1 in
+    let N = var 2 in
+    let M = matrix_at 3 in
+    let P = column_at 12 in
+    let T = column_at 15 in
+    let J = column_at 18 in
+    column_ring (u ∷ d ∷ n ∷ (entries m ++ (coordinates p ++ (coordinates t ++ coordinates j))))
+    (sym_times (U ⊗ D) (sym_times U (M ·ˢᶜ P) +ˢᶜ sym_times (U ⊗ D) (T +ˢᶜ sym_times (U ⊗ N) J) +ˢᶜ sym_times (U ⊗ N ⊗ (U ⊗ D)) (sym_neg J)))
+    (sym_times (U ⊗ D) (sym_times U (M ·ˢᶜ P +ˢᶜ sym_times D T))) tt
+
+regrouped : (p : Column) (u d n : ℤ) → times (u *ℤ d) (times u (times n p)) ≡ times (u *ℤ n *ℤ (u *ℤ d)) p
+unfolding times
+regrouped p u d n =
+    let U = var 0 in
+    let D = var 1 in
+    let N = var 2 in
+    column_ring (u ∷ d ∷ n ∷ coordinates p) (sym_times (U ⊗ D) (sym_times U (sym_times N (column_at 3)))) (sym_times (U ⊗ N ⊗ (U ⊗ D)) (column_at 3)) tt
+
+positive_three : (a b : ℕ) (d : ℤ) → 0 < a → 0 < b → pos 0 <ℤ d → pos 0 <ℤ (pos a *ℤ pos b *ℤ d)
+positive_three a b (pos k) p q h = above (a * b * k) (positive_product (a * b) k (positive_product a b p q) (omega (arith, ints)))
+positive_three a b (negsuc k) p q h = absurd (omega (arith, ints))
+
+module _ (L : SpaceGroup) where
+  open L use {unit, some, members, closed}
+
+  pub some_members : 0 < length members
+  some_members = omega (arith, closed.has_one.1)
+
+  -- what the search keeps: sets closed under products, each with its average, its key, and the box in which it was grown
+  pub record AreKept (K : Type 0) : Type 0 where
+    pub set : K → List Map
+    pub is_sub : (k : K) → IsClosedList (space L) (set k)
+    pub average : K → Block
+    pub is_mean : (k : K) → IsMean (length members) (set k) (average k)
+    pub key : K → Key
+    pub is_key : (k : K) → IsKey unit members (length members) (average k) (key k)
+    pub mult : K → ℕ
+    pub is_mult : (k : K) (fs : List Map) → IsOwn L (length members) fs (average k) → length fs * mult k ≡ length members
+    -- the box: a common denominator of the average, and what it reaches
+    pub denominator : K → ℕ
+    pub positive : (k : K) → 0 < denominator k
+    pub whole : K → Matrix
+    pub is_whole : (k : K) → IsWhole (denominator k) (whole k) (average k)
+    pub size : K → Sizes
+    pub is_reach : (k : K) → IsReach unit (denominator k) (length members) (size k) (average k)
+    -- the set of the identity alone is kept, and no two keys are the same
+    pub trivial : (k : K) × (set k ≡ identity_map ∷ [])
+    pub apart : (j k : K) → key j ≡ key k → j ≡ k
+    -- the set that a kept set and an element in its box generate has its key among the kept ones, where some point is fixed by all
+    pub grown : (k : K) (e : Map) → IsElement unit members e → IsInBox unit (size k) e → (y : ScaledPoint) → FixAll (set k) y → moved e y ≡ y
+        → (list : List Map) × (a : Block) × (t : K) × IsClosedList (space L) list × ((z : ScaledPoint) → FixAll list z ↔ (FixAll (set k) z × (moved e z ≡ z))) × IsMean (length members) list a × IsKey unit members (length members) a (key t)
+
+  -- a point of a row, moved by whole cells, lies in the image of the average of which the row has the key
+  pub lies_moved : (a : Block) (p : Key) (y : ScaledPoint) → a.n ≡ pos (length members) → block_times a a ≡ block_scaled a.n a → key_of unit (length members) a ≡ p → Lies unit (length members) p (point_of unit y)
+      → (k : Column) × IsInImage a (moved (shift_by unit k) y)
+  unfolding key_of row_point moved
+  lies_moved a p y number two e h =
+      let n = length members in
+      let j = modulo_is (unit * n) (positive_product unit n some some_members) a.t in
+      let z = h.at in
+      let u = pos unit in
+      let w : ℤ = u *ℤ pos n *ℤ z.d in
+      let k : Column = neg_column (h.whole +ᶜ j.0) in
+      let c : Column = times u (a.m ·ᶜ z.n) in
+      let m : p.m ≡ a.m = ap (λ (v : Key). v.m) (sym e) in
+      let t : p.t ≡ a.t +ᶜ times (u *ℤ pos n) j.0 = ap (λ (v : Key). v.t) (sym e) ∙ j.1 in
+      let cross : times w y.n ≡ times (u *ℤ pos y.d) (c +ᶜ times z.d (a.t +ᶜ times (u *ℤ pos n) j.0) +ᶜ times w h.whole) =
+      h.equal ∙ ap₂ (λ x v. times (u *ℤ pos y.d) (times u (x ·ᶜ z.n) +ᶜ times z.d v +ᶜ times w h.whole)) m t in
+      let f = row_moved y.n c a.t j.0 h.whole u (pos y.d) (pos n) z.d cross in
+      let mm : a.m · a.m ≡ scaled (pos n) a.m = matrix_part a two ∙ ap (λ v. scaled v a.m) number in
+      let q = row_image a.m _ z.n a.t u (pos y.d) (pos n) z.d f mm (translation_part a two) in
+      let moved_n : Column = identity ·ᶜ y.n +ᶜ times (pos y.d) (times u k) in
+      (k, cancel_column w _ _ (positive_three unit n z.d some some_members h.is_point) (q ∙ ap (λ v. times w (times v moved_n)) (sym number)))
+
+  -- a point of the image lies on the row
+  pub image_lies : (a : Block) (p : Key) (y : ScaledPoint) → a.n ≡ pos (length members) → key_of unit (length members) a ≡ p → IsInImage a y → Lies unit (length members) p (point_of unit y)
+  unfolding key_of row_point
+  image_lies a p y number e i =
+      let n = length members in
+      let j = modulo_is (unit * n) (positive_product unit n some some_members) a.t in
+      let m : p.m ≡ a.m = ap (λ (v : Key). v.m) (sym e) in
+      let t : p.t ≡ a.t +ᶜ times (pos unit *ℤ pos n) j.0 = ap (λ (v : Key). v.t) (sym e) ∙ j.1 in
+      record {
+        at = point_of unit y;
+        is_point = above (unit * y.d) (positive_product unit y.d some y.some);
+        whole = neg_column j.0;
+        equal = sym (ap₂ (λ x v. times (pos unit *ℤ pos y.d) (times (pos unit) (x ·ᶜ y.n) +ᶜ times (pos unit *ℤ pos y.d) v +ᶜ times (pos unit *ℤ pos n *ℤ (pos unit *ℤ pos y.d)) (neg_column j.0))) m t
+            ∙ row_here a.m y.n a.t j.0 (pos unit) (pos y.d) (pos n) ∙ ap (λ v. times (pos unit *ℤ pos y.d) (times (pos unit) v)) (i ∙ ap (λ v. times v y.n) number) ∙ regrouped y.n (pos unit) (pos y.d) (pos n));
+      }
+
+  module _ (narrow : AreNarrow members) (K : Type 0) (kept : AreKept K) where
+    open kept use {set, is_sub, average, is_mean, key, is_key, mult, is_mult, denominator, positive, whole, is_whole, size, is_reach, trivial, apart, grown}
+
+    number : (k : K) → (average k).n ≡ pos (length members)
+    number k = means.number L (length members) some_members (set k) (is_sub k) (average k) (is_mean k)
+
+    two : (k : K) → block_times (average k) (average k) ≡ block_scaled (average k).n (average k)
+    two k = means.idempotent_itself L (length members) some_members (set k) (is_sub k) (average k) (is_mean k)
+
+    -- the elements that fix all of the image
+    abbrev pub all_of : K → List Map
+    all_of k = full L (length members) some_members (average k)
+
+    pub own : (k : K) → IsOwn L (length members) (all_of k) (average k)
+    own k = full_own L (length members) some_members (set k) (average k) (is_sub k) (is_mean k)
+
+    abbrev pub InK : K → ScaledPoint → Type 0
+    InK k y = IsInImage (average k) y
+
+    fixed_by : (k : K) (y : ScaledPoint) → InK k y ↔ FixAll (set k) y
+    fixed_by k y = (
+      (λ i e c. means.image_fixed L (length members) some_members (set k) (is_sub k) (average k) (is_mean k) y i e c),
+      (λ h. means.fixed_image L (length members) some_members (set k) (is_sub k) (average k) (is_mean k) y h),
+    )
+
+    narrow_element : (e : Map) → IsElement unit members e → HasEntriesWithin 2 e.w
+    unfolding operator_of
+    narrow_element e m = narrow (operator_of unit e) m
+
+    pub rows_kept : table.AreKept (space L) (on_points L) K InK all_of
+    rows_kept = record {
+      distinct = λ k. (own k).closed.distinct;
+      fixes = λ k e c. let r = ((own k).exactly e).0 c in (r.0, λ y i. means.image_fixed L (length members) some_members (all_of k) (own k).closed (average k) (own k).mean y i e c);
+      all = λ k e m h. ((own k).exactly e).1 (m, (means.full_exactly L (length members) some_members (set k) (is_sub k) (average k) (is_mean k) e).1 h);
+      image = λ k y h. means.fixed_image L (length members) some_members (all_of k) (own k).closed (average k) (own k).mean y h;
+      generic = λ k.
+          let g = generic (length members) some_members (average k) (number k) (two k)
+          (mean_within (length members) (set k) (average k) (means.some_members L (length members) some_members (set k) (is_sub k) (average k) (is_mean k)) (is_mean k) (λ e c. narrow_element e (All-contains (IsElement unit members) (set k) e (is_sub k).valid c))) in
+          (g.0, g.1, λ e m f. ((own k).exactly e).1 (m, g.2 e (narrow_element e m) f));
+      apart = λ j k g m h. apart j k ((same_key_same_image L (length members) some_members (average j) (average k) (key j) (key k) (all_of j) (all_of k) (own j) (own k) (is_key j) (is_key k)).1 (g, m, h));
+    }
+
+    pub rows_grow : table.Grows (space L) (on_points L) K InK all_of
+    rows_grow k y i =
+        let near = move_near unit (denominator k) (length members) (whole k) (size k) (average k) y some (positive k) some_members (number k) (is_whole k) (two k) (is_reach k) i in
+        let m : Map = shift_by unit near.0 in (
+          m,
+          shift_in L near.0,
+          near.1,
+          λ e inside fix.
+              let g = grown k e inside (near_in_box unit (size k) e (moved m y) some near.2 fix) (moved m y) ((fixed_by k (moved m y)).0 near.1) fix in
+              let list = g.0 in
+              let a = g.1 in
+              let t = g.2 in
+              let o = full_own L (length members) some_members list a g.3 g.5 in
+              let h = (same_key_same_image L (length members) some_members a (average t) (key t) (key t) (full L (length members) some_members a) (all_of t) o (own t) g.6 (is_key t)).0 refl in (
+                t,
+                h.0,
+                h.1,
+                λ z. (
+                  (λ p. (h.2 z).0 (means.fixed_image L (length members) some_members list g.3 a g.5 z ((g.4 z).1 ((fixed_by k z).0 p.0, p.1)))),
+                  (λ q. let r = (g.4 z).0 (λ e c. means.image_fixed L (length members) some_members list g.3 a g.5 z ((h.2 z).1 q) e c) in ((fixed_by k z).1 r.0, r.1)),
+                ),
+              ),
+        )
+
+    -- ---- rows and images
+
+    lies_from : (k : K) (y : ScaledPoint) → Lies unit (length members) (key k) (point_of unit y) → (h : Map) × IsElement unit members h × InK k (moved h y)
+    lies_from k y l =
+        let f = is_key k in
+        let g : Map = f.by in
+        let a = carried g (average k) in
+        let s = lies_moved a (key k) y (carried-number g (average k) ∙ number k) (carried_idempotent L g (average k) f.element (two k)) f.gives l in
+        let m : Map = shift_by unit s.0 in
+        let i : IsElement unit members (undo g) = (space L).inv_in g f.element in
+        let there : moved g (moved (undo g) (moved m y)) ≡ moved m y = conjugates.act_there (space L) (on_points L) g (moved m y) f.element in (
+          undo g ∘ m,
+          (space L).mul_in (undo g) m i (shift_in L s.0),
+          subst (InK k) (sym (moved-∘ (undo g) m y)) (image_carried_back L g (average k) (moved (undo g) (moved m y)) f.element (subst (IsInImage a) (sym there) s.1)),
+        )
+
+    lies_to : (k : K) (y : ScaledPoint) → InK k y → (h : Map) × IsElement unit members h × Lies unit (length members) (key k) (point_of unit (moved h y))
+    lies_to k y i =
+        let f = is_key k in
+        let g : Map = f.by in
+        (g, f.element, image_lies (carried g (average k)) (key k) (moved g y) (carried-number g (average k) ∙ number k) f.gives (image_carried L g (average k) y f.element i))
+
+    some_site : (y : ScaledPoint) → 0 < length (site L y)
+    some_site y = omega (arith, ((site_is L y identity_map).1 ((space L).one_in, moved-identity y)).1)
+
+    -- the row of k: some image of y lies on it, and the orbit of y has as many points as it says
+    abbrev pub FitsScaled : K → ScaledPoint → Type 0
+    FitsScaled k y = ((g : Map) × IsElement unit members g × Lies unit (length members) (key k) (point_of unit (moved g y))) × (length (orbit L y) ≡ mult k)
+
+    all_points : (y : ScaledPoint) → InK trivial.0 y
+    all_points y = (fixed_by trivial.0 y).1 (λ e c. ⊎_elim (λ q. subst (λ v. moved v y ≡ y) q (moved-identity y)) (λ d. lists.not_in_nil e d) (lists.Contains-cases e identity_map [] (subst (λ v. Contains v e) trivial.1 c)))
+
+    pub every_scaled_fits : (y : ScaledPoint) → (k : K) × FitsScaled k y
+    every_scaled_fits y =
+        table.every_point_fits (space L) (on_points L) (sites L) K InK all_of rows_kept (length members) some_members mult (λ z. length (orbit L z)) (λ k z. Lies unit (length members) (key k) (point_of unit z))
+        some_site (λ k. is_mult k (all_of k) (own k)) (order_times_multiplicity L) lies_from lies_to rows_grow trivial.0 all_points y
+
+    pub one_row : (j k : K) (y : ScaledPoint) → FitsScaled j y → FitsScaled k y → j ≡ k
+    one_row = table.fits_one (space L) (on_points L) (sites L) K InK all_of rows_kept (length members) some_members mult (λ z. length (orbit L z)) (λ k z. Lies unit (length members) (key k) (point_of unit z))
+        some_site (λ k. is_mult k (all_of k) (own k)) (order_times_multiplicity L) lies_from lies_to
+
+    pub every_row_fits : (k : K) → (y : ScaledPoint) × FitsScaled k y
+    every_row_fits = table.every_row_fits (space L) (on_points L) (sites L) K InK all_of rows_kept (length members) some_members mult (λ z. length (orbit L z)) (λ k z. Lies unit (length members) (key k) (point_of unit z))
+        some_site (λ k. is_mult k (all_of k) (own k)) (order_times_multiplicity L) lies_from lies_to
+
+    pub same_row : (k : K) (x y : ScaledPoint) → FitsScaled k x → FitsScaled k y ↔ conjugates.Conjugate (space L) (on_points L) x y
+    same_row = table.same_row (space L) (on_points L) (sites L) K InK all_of rows_kept (length members) some_members mult (λ z. length (orbit L z)) (λ k z. Lies unit (length members) (key k) (point_of unit z))
+        some_site (λ k. is_mult k (all_of k) (own k)) (order_times_multiplicity L) lies_from lies_to
+
+    -- some image of a point that fits a row is fixed by exactly what fixes the image of its average
+    pub has_group : (k : K) (y : ScaledPoint) → FitsScaled k y → (g : Map) × IsElement unit members g × ((e : Map) → Contains (site L (moved g y)) e ↔ Contains (all_of k) e)
+    has_group = table.group_from_fits (space L) (on_points L) (sites L) K InK all_of rows_kept (length members) some_members mult (λ z. length (orbit L z)) (λ k z. Lies unit (length members) (key k) (point_of unit z))
+        some_site (λ k. is_mult k (all_of k) (own k)) (order_times_multiplicity L) lies_from lies_to
+
+-- the kept sets under other names, as after the rows are sorted
+pub renamed : (L : SpaceGroup) (J K : Type 0) (kept : AreKept L K) (f : J → K) (g : K → J) → ((k : K) → kept.key (f (g k)) ≡ kept.key k) → ((i j : J) → kept.key (f i) ≡ kept.key (f j) → i ≡ j) → AreKept L J
+renamed L J K kept f g back apart = record {
+  set = λ j. kept.set (f j);
+  is_sub = λ j. kept.is_sub (f j);
+  average = λ j. kept.average (f j);
+  is_mean = λ j. kept.is_mean (f j);
+  key = λ j. kept.key (f j);
+  is_key = λ j. kept.is_key (f j);
+  mult = λ j. kept.mult (f j);
+  is_mult = λ j. kept.is_mult (f j);
+  denominator = λ j. kept.denominator (f j);
+  positive = λ j. kept.positive (f j);
+  whole = λ j. kept.whole (f j);
+  is_whole = λ j. kept.is_whole (f j);
+  size = λ j. kept.size (f j);
+  is_reach = λ j. kept.is_reach (f j);
+  trivial = let k = kept.trivial.0 in (g k, ap kept.set (kept.apart (f (g k)) k (back k)) ∙ kept.trivial.1);
+  apart = apart;
+  grown = λ j e m b y h q.
+      let r = kept.grown (f j) e m b y h q in
+      (r.0, r.1, g r.2, r.3, r.4, r.5, subst (IsKey L.unit L.members (length L.members) r.1) (sym (back r.2)) r.6);
+}

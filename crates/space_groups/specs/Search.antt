@@ -1,0 +1,78 @@
+-- The sets that a search for the rows keeps: what each of them is, and when the search is done.
+use Rattle.std.specs.Prelude.{◌≡◌, ℕ, ◌*◌, ◌<◌, ◌≤◌, ◌≢◌, ◌↔◌, List, [], ◌∷◌, length, All, AllPairs, Contains}
+use Rattle.lattice_algebra.specs.Matrix.{Matrix}
+use Rattle.lattice_algebra.specs.Operator.{Operator, IsOperator, identity_operator, product, HasEntriesWithin}
+use Rattle.lattice_algebra.specs.Map.{Map, ◌∘◌, identity_map}
+use Rattle.space_groups.specs.Space.{IsElement, ScaledPoint, moved}
+use Rattle.space_groups.specs.Averages.{Block, IsMean, IsInImage}
+use Rattle.space_groups.specs.Regions.{Sizes, IsWhole, IsReach, IsInBox}
+use Rattle.space_groups.specs.Keys.{Key, IsKey}
+use Rattle.space_groups.specs.Rows.{Row, IsRowBefore}
+
+-- elements of the space group, each once, with the identity and the product of each two
+pub record IsSub (unit : ℕ) (members : List Operator) (list : List Map) : Type 0 where
+  pub elements : All (IsElement unit members) list
+  pub once : AllPairs (λ e f. e ≢ f) list
+  pub identity : Contains list identity_map
+  pub products : (e f : Map) → Contains list e → Contains list f → Contains list (e ∘ f)
+
+-- the maps of the list fix z
+abbrev pub FixAll : List Map → ScaledPoint → Type 0
+FixAll list z = (e : Map) → Contains list e → moved e z ≡ z
+
+-- the list has exactly the elements that fix every point of the image of a, each once
+pub record IsFull (unit : ℕ) (members : List Operator) (a : Block) (list : List Map) : Type 0 where
+  pub exactly : (e : Map) → Contains list e ↔ (IsElement unit members e × ((y : ScaledPoint) → IsInImage a y → moved e y ≡ y))
+  pub once : AllPairs (λ e f. e ≢ f) list
+
+-- a kept set, its average, its key and its number of points, and the box in which it is grown
+pub record Kept : Type 0 where
+  pub set : List Map
+  pub average : Block
+  pub key : Key
+  pub mult : ℕ
+  pub denominator : ℕ
+  pub whole : Matrix
+  pub size : Sizes
+
+pub record IsKept (unit : ℕ) (members : List Operator) (k : Kept) : Type 0 where
+  pub sub : IsSub unit members k.set
+  pub mean : IsMean (length members) k.set k.average
+  pub key : IsKey unit members (length members) k.average k.key
+  pub mult : (list : List Map) → IsFull unit members k.average list → length list * k.mult ≡ length members
+  pub some : 0 < k.denominator
+  pub whole : IsWhole k.denominator k.whole k.average
+  pub reach : IsReach unit k.denominator (length members) k.size k.average
+
+-- the set that k and e generate: a Sub that fixes exactly what k and e fix, with its average and its key
+pub record IsGrown (unit : ℕ) (members : List Operator) (k : Kept) (e : Map) (p : Key) : Type 0 where
+  pub list : List Map
+  pub sub : IsSub unit members list
+  pub fixes : (z : ScaledPoint) → FixAll list z ↔ (FixAll k.set z × (moved e z ≡ z))
+  pub average : Block
+  pub mean : IsMean (length members) list average
+  pub key : IsKey unit members (length members) average p
+
+-- each set that k and an element in its box generate has its key among the kept ones, where some point is fixed by all
+abbrev pub IsDone : ℕ → List Operator → List Kept → Kept → Type 0
+IsDone unit members kept k = (e : Map) → IsElement unit members e → IsInBox unit k.size e → (y : ScaledPoint) → FixAll k.set y → moved e y ≡ y → (t : Kept) × Contains kept t × IsGrown unit members k e t.key
+
+abbrev pub row_of : Kept → Row
+row_of k = record { mult = k.mult; key = k.key }
+
+-- what a finished search is, and its rows in order
+pub record IsSearch (unit : ℕ) (members : List Operator) (kept : List Kept) (rows : List Row) : Type 0 where
+  pub all : All (IsKept unit members) kept
+  pub trivial : (k : Kept) × Contains kept k × (k.set ≡ identity_map ∷ [])
+  pub apart : AllPairs (λ j k. j.key ≢ k.key) kept
+  pub done : All (IsDone unit members kept) kept
+  pub rows_are : (row : Row) → Contains rows row ↔ ((k : Kept) × Contains kept k × (row_of k ≡ row))
+  pub ordered : AllPairs IsRowBefore rows
+
+-- the operators of a group modulo the cell, each once, in the sizes that the code holds
+pub record IsMembers (unit : ℕ) (members : List Operator) : Type 0 where
+  pub operators : All (IsOperator unit) members
+  pub once : AllPairs (λ f g. f ≢ g) members
+  pub identity : Contains members identity_operator
+  pub products : (f g : Operator) → Contains members f → Contains members g → Contains members (product unit f g)
+  pub narrow : (f : Operator) → Contains members f → HasEntriesWithin 2 f.w
