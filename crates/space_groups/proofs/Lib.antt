@@ -10,7 +10,9 @@ pub mod Sites
 pub mod Orbits
 pub mod Rows
 pub mod Points
+pub mod SiteLists
 pub mod OrbitLists
+pub mod Laws
 pub mod Headline
 pub mod Divided
 pub mod Near

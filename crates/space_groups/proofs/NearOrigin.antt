@@ -7,7 +7,6 @@ use Rattle.lattice_algebra.specs.Operator.{HasEntriesWithin, AreParts, AreWithin
 use Rattle.lattice_algebra.specs.Map.{Map}
 use Rattle.lattice_algebra.proofs.Ring.{var, ◌⊗◌}
 use Rattle.lattice_algebra.proofs.MatrixRing.{matrix_at, column_at, ◌·ˢᶜ◌, ◌+ˢᶜ◌, sym_times, sym_neg, sym_origin, column_ring}
-
 use Rattle.lattice_algebra.proofs.Numbers.{abs_add, abs_mul}
 use Rattle.space_groups.specs.Averages.{Block, block_times, block_scaled}
 use Rattle.space_groups.specs.Regions.{Sizes, IsNear, IsInBox, IsReach, IsRowWithin, shift_by}

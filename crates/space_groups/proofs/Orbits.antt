@@ -163,8 +163,8 @@ module _ (L : SpaceGroup) where
   )
 
   -- the number of elements that fix a point, times that of its images in a cell, is the number of members
-  pub order_times_multiplicity : (y : ScaledPoint) → length (site L y) * length (orbit y) ≡ length members
-  order_times_multiplicity y = mul_comm (length (site L y)) (length (orbit y)) ∙ sym (length-classes (λ f z. scaled_eq (place y f) z) members (orbit y) (length (site L y))
+  pub site_times_orbit : (y : ScaledPoint) → length (site L y) * length (orbit y) ≡ length members
+  site_times_orbit y = mul_comm (length (site L y)) (length (orbit y)) ∙ sym (length-classes (λ f z. scaled_eq (place y f) z) members (orbit y) (length (site L y))
       (λ k d l. actions.count_by-once scaled_eq scaled_eq-is (place y (get_or members k d)) (orbit y) (orbit_distinct y) ((orbit_is y (place y (get_or members k d))).1 (get_or members k d, Contains-get_or members k d l, refl)))
       (λ k d l. let r = (orbit_is y (get_or (orbit y) k d)).0 (Contains-get_or (orbit y) k d l) in
       subst (λ z. count_by (λ f. scaled_eq (place y f) z) members ≡ length (site L y)) r.2 (fibre y r.0 r.1)))

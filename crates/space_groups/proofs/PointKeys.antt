@@ -1,11 +1,11 @@
 -- The key of a row is the key of each point that fits it, so the rows are the list of all pairs of a number of images and a key.
-use Rattle.std.proofs.Common.{◌≡◌, ℕ, ◌<◌, ◌≤◌, ◌↔◌, List, length, map, get_or, pos, Contains, ap, sym, ◌∙◌, refl, subst, arith}
+use Rattle.std.proofs.Common.{◌≡◌, ℕ, ◌<◌, ◌↔◌, List, length, map, pos, Contains, ap, sym, ◌∙◌, refl, subst, arith}
 use Rattle.std.specs.List.{IsDistinct}
 use Rattle.std.proofs.lemmas.List.{length-map}
-use Rattle.std.proofs.lemmas.List.Elements.{All-contains, Contains-get_or}
-use Rattle.std.proofs.lemmas.Map.Made.{AllPairs-from_IsDistinct, IsDistinct-from_AllPairs}
+use Rattle.std.proofs.lemmas.List.Elements.{All-contains}
+use Rattle.std.proofs.lemmas.Map.Made.{IsDistinct-from_AllPairs}
 use Rattle.lattice_algebra.specs.Point.{Point, IsPoint, ◌≈◌, image}
-use Rattle.lattice_algebra.specs.Map.{Map, ◌∘◌, identity_map, undo}
+use Rattle.lattice_algebra.specs.Map.{Map, ◌∘◌, undo}
 use Rattle.lattice_algebra.proofs.Maps.{map_eq, map_eq-is}
 use Rattle.lattice_algebra.proofs.Points.{≈_trans, IsPoint-image}
 use Rattle.lattice_algebra.proofs.Numbers.{above}
@@ -17,8 +17,8 @@ use Rattle.space_groups.specs.Space.{IsElement, ScaledPoint, moved, point_of}
 use Rattle.space_groups.specs.Averages.{IsInImage, Block, block_of, block_scaled, sum_of, IsMean}
 use Rattle.space_groups.specs.Keys.{carried, Key, key_of, ComesBefore}
 use Rattle.space_groups.specs.Rows.{row_point, Fits, IsSpecial, IsPointKey}
-use Rattle.space_groups.specs.Lists.{IsOrbitList, IsSiteList}
-use Rattle.space_groups.proofs.ScaledPoints.{moved-∘, moved-identity}
+use Rattle.space_groups.specs.Lists.{IsOrbitList}
+use Rattle.space_groups.proofs.ScaledPoints.{moved-∘}
 use Rattle.space_groups.proofs.Blocks.{block_sums, cancel_block}
 use Rattle.space_groups.proofs.Elements.{SpaceGroup, space, on_points}
 use Rattle.space_groups.proofs.Means as means
@@ -26,44 +26,25 @@ use Rattle.space_groups.proofs.Means.{sum_is}
 use Rattle.space_groups.proofs.Near.{turned, carried_mean, turned_distinct}
 use Rattle.space_groups.proofs.Divided.{mean_exists}
 use Rattle.space_groups.proofs.Sites.{site, site_is, site_distinct}
+use Rattle.space_groups.proofs.SiteLists.{one_length, site_closed, site_list}
 use Rattle.space_groups.proofs.Points.{IsPoint-scaled, image_of, scaled_of, site-scaled}
 use Rattle.space_groups.proofs.Rows.{some_members, image_lies, AreNarrow, AreKept, FitsScaled, has_group, own}
 
 -- lists that have the same maps, each once, have the same average
 pub mean_once : (n : ℕ) (xs ys : List Map) (a b : Block) → IsDistinct map_eq xs → IsDistinct map_eq ys → ((e : Map) → Contains xs e ↔ Contains ys e) → 0 < length xs → IsMean n xs a → IsMean n ys b → a ≡ b
 mean_once n xs ys a b d d' same some p q =
-    let le : length xs ≤ length ys = lists.pigeonhole map_eq map_eq-is xs ys d (λ e c. (same e).0 c) in
-    let ge : length ys ≤ length xs = lists.pigeonhole map_eq map_eq-is ys xs d' (λ e c. (same e).1 c) in
-    let l : length xs ≡ length ys = omega (arith, le, ge) in
+    let l : length xs ≡ length ys = one_length xs ys d d' same in
     let s : sum_of xs ≡ sum_of ys = sum_is xs ∙ total-same block_sums map_eq map_eq-is block_of xs ys d d' same ∙ sym (sum_is ys) in
     cancel_block (pos (length xs)) a b (above (length xs) some) (p ∙ ap (block_scaled (pos n)) s ∙ sym q ∙ ap (λ k. block_scaled (pos k) b) (sym l))
 
 module _ (L : SpaceGroup) where
   open L use {unit, some, members, closed}
 
-  site_closed : (y : ScaledPoint) → IsClosedList (space L) (site L y)
-  site_closed y = record {
-    distinct = site_distinct L y;
-    valid = λ k d l. ((site_is L y (get_or (site L y) k d)).0 (Contains-get_or (site L y) k d l)).0;
-    has_one = (site_is L y identity_map).1 ((space L).one_in, moved-identity y);
-    closed = λ e f p q.
-        let a = (site_is L y e).0 p in
-        let b = (site_is L y f).0 q in
-        (site_is L y (e ∘ f)).1 ((space L).mul_in e f a.0 b.0, moved-∘ e f y ∙ ap (moved e) b.1 ∙ a.1);
-  }
-
-  -- the list of a point's site-symmetry group is that of its spot
-  site_list : (x : Point) (y : ScaledPoint) → IsPoint x → x ≈ point_of unit y → IsSiteList unit members x (site L y)
-  site_list x y p e = record {
-    exactly = λ g. let a = site_is L y g in let b = site-scaled L x y p e g in ((λ c. b.1 (a.0 c)), (λ s. a.1 (b.0 s)));
-    once = AllPairs-from_IsDistinct map_eq-is (site L y) (site_distinct L y);
-  }
-
   special_is : (x : Point) (y : ScaledPoint) (a : Block) → IsPoint x → x ≈ point_of unit y → IsSpecial unit members x a → IsMean (length members) (site L y) a
   special_is x y a p e s =
-      let m = mean_exists L (site L y) (site_closed y) in
+      let m = mean_exists L (site L y) (site_closed L y) in
       let same : (g : Map) → Contains (site L y) g ↔ Contains s.site g = λ g. let b = site-scaled L x y p e g in ((λ c. (s.is_site.exactly g).1 (b.1 ((site_is L y g).0 c))), (λ c. (site_is L y g).1 (b.0 ((s.is_site.exactly g).0 c)))) in
-      subst (IsMean (length members) (site L y)) (mean_once (length members) (site L y) s.site m.0 a (site_distinct L y) (IsDistinct-from_AllPairs map_eq-is s.site s.is_site.once) same (omega (arith, (site_closed y).has_one.1)) m.1 s.mean) m.1
+      subst (IsMean (length members) (site L y)) (mean_once (length members) (site L y) s.site m.0 a (site_distinct L y) (IsDistinct-from_AllPairs map_eq-is s.site s.is_site.once) same (omega (arith, (site_closed L y).has_one.1)) m.1 s.mean) m.1
 
   -- where the group of y is fs, that of h y is h fs h^-1
   turned_site : (h : Map) (y : ScaledPoint) (fs : List Map) → IsElement unit members h → ((e : Map) → Contains (site L y) e ↔ Contains fs e) → (e : Map) → Contains (map (turned h) fs) e ↔ Contains (site L (moved h y)) e
@@ -106,8 +87,8 @@ module _ (L : SpaceGroup) where
         (subst (λ v. IsMean (length members) (site L v) b) (sym there) (special_is (image unit h x) (moved h y) b (IsPoint-image unit some h x p) (image_of L x y h e) s)) in
         let h : Map = key.by ∘ g.0 in
         let m : IsElement unit members h = (space L).mul_in key.by g.0 key.element g.1 in
-        let b = mean_exists L (site L (moved h y)) (site_closed (moved h y)) in
-        let s : IsSpecial unit members (image unit h x) b.0 = record { site = site L (moved h y); is_site = site_list (image unit h x) (moved h y) (IsPoint-image unit some h x p) (image_of L x y h e); mean = b.1 } in
+        let b = mean_exists L (site L (moved h y)) (site_closed L (moved h y)) in
+        let s : IsSpecial unit members (image unit h x) b.0 = record { site = site L (moved h y); is_site = site_list L (image unit h x) (moved h y) (IsPoint-image unit some h x p) (image_of L x y h e); mean = b.1 } in
         let same : carried key.by avg ≡ b.0 = special_moved key.by z _ avg b.0 key.element g.2 o.closed o.mean (subst (λ v. IsMean (length members) (site L v) b.0) (moved-∘ key.by g.0 y) b.1) in
         record {
           by = h;
@@ -128,8 +109,8 @@ module _ (L : SpaceGroup) where
       let e : gx ≈ point_of unit z = image_of L x y.0 g y.1 in
       let a = k.special in
       let mean : IsMean (length members) (site L z) a = special_is gx z a (IsPoint-image unit some g x h) e k.is_special in
-      let inside : IsInImage a z = means.fixed_image L (length members) (some_members L) (site L z) (site_closed z) a mean z (λ s c. ((site_is L z s).0 c).1) in
-      let lies = image_lies L a p z (means.number L (length members) (some_members L) (site L z) (site_closed z) a mean) k.gives inside in
+      let inside : IsInImage a z = means.fixed_image L (length members) (some_members L) (site L z) (site_closed L z) a mean z (λ s c. ((site_is L z s).0 c).1) in
+      let lies = image_lies L a p z (means.number L (length members) (some_members L) (site L z) (site_closed L z) a mean) k.gives inside in
       record {
         by = g;
         element = k.element;

@@ -1,7 +1,6 @@
 -- Between rational points and points over a denominator that is a multiple of unit: one point, one site-symmetry group, one orbit.
-use Rattle.std.proofs.Common.{◌≡◌, ◌++◌, ◌∷◌, ℕ, ◌*◌, ◌<◌, ◌↔◌, ℤ, pos, negsuc, ◌*ℤ◌, ◌<ℤ◌, ap, ap₂, sym, ◌∙◌, refl, subst, arith}
+use Rattle.std.proofs.Common.{◌≡◌, ◌++◌, ◌∷◌, ℕ, ◌*◌, ◌<◌, ◌↔◌, ℤ, pos, negsuc, ◌*ℤ◌, ◌<ℤ◌, ap, sym, ◌∙◌, refl, subst, arith}
 use Rattle.std.proofs.lemmas.Int.{ints}
-use lib.IntN.{*ℤ_comm}
 use Rattle.lattice_algebra.specs.Matrix.{Matrix, Column, entries, coordinates, ◌·ᶜ◌, ◌+ᶜ◌, times}
 use Rattle.lattice_algebra.specs.Map.{AreInverse, Map, ◌∘◌, undo}
 use Rattle.lattice_algebra.specs.Point.{Point, IsPoint, ◌≈◌, image}
@@ -10,7 +9,7 @@ use Rattle.lattice_algebra.proofs.MatrixRing.{matrix_at, column_at, ◌·ˢᶜ�
 use Rattle.lattice_algebra.proofs.Maps.{∘_assoc, ∘-identity, identity-∘}
 use Rattle.lattice_algebra.proofs.Points.{≈_sym, ≈_trans, image-same, IsPoint-image}
 use Rattle.lattice_algebra.proofs.Numbers.{above, positive_product}
-use Rattle.lattice_algebra.proofs.Columns.{cancel_column, swap_times}
+use Rattle.lattice_algebra.proofs.Columns.{cancel_column}
 use Rattle.finite_groups.proofs.Conjugates as conjugates
 use Rattle.space_groups.specs.Space.{IsElement, IsInSite, AreConjugate, ScaledPoint, moved, point_of}
 use Rattle.space_groups.proofs.ScaledPoints.{scaled_path}
@@ -50,7 +49,8 @@ pub scaled_apart : (unit : ℕ) → 0 < unit → (x y : ScaledPoint) → x.d ≡
 scaled_apart unit h x y d e =
     scaled_path x y (cancel_column (pos unit *ℤ pos y.d) x.n y.n (above (unit * y.d) (positive_product unit y.d h y.some)) (e ∙ ap (λ k. times (pos unit *ℤ pos k) y.n) d)) d
 
-one_inverse : (L : SpaceGroup) (g h : Map) → IsElement L.unit L.members g → AreInverse g h → h ≡ undo g
+-- what undoes an element is its inverse in the group
+pub one_inverse : (L : SpaceGroup) (g h : Map) → IsElement L.unit L.members g → AreInverse g h → h ≡ undo g
 one_inverse L g h m i = sym (∘-identity h) ∙ ap (λ x. h ∘ x) (sym ((space L).inv_right g m)) ∙ sym (∘_assoc h g (undo g)) ∙ ap (λ x. x ∘ undo g) i.left ∙ identity-∘ (undo g)
 
 module _ (L : SpaceGroup) where
@@ -59,7 +59,7 @@ module _ (L : SpaceGroup) where
   pub image_of : (x : Point) (y : ScaledPoint) (g : Map) → x ≈ point_of unit y → image unit g x ≈ point_of unit (moved g y)
   image_of x y g e = ≈_trans (image unit g x) (image unit g (point_of unit y)) (point_of unit (moved g y)) (IsPoint-image unit some g (point_of unit y) (IsPoint-scaled unit some y)) (image-same unit g x (point_of unit y) e) (image-moved unit g y)
 
-  -- what fixes the point fixes the spot
+  -- what fixes the point fixes the scaled point
   pub site-scaled : (x : Point) (y : ScaledPoint) → IsPoint x → x ≈ point_of unit y → (g : Map) → IsInSite unit members x g ↔ (IsElement unit members g × (moved g y ≡ y))
   unfolding moved
   site-scaled x y p e g = (

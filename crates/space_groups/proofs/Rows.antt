@@ -1,5 +1,5 @@
 -- The kept sets of the search are the rows of a table.
-use Rattle.std.proofs.Common.{◌≡◌, ◌++◌, ◌∷◌, [], ℕ, ◌*◌, ◌<◌, ◌≤◌, ◌↔◌, List, length, ℤ, pos, negsuc, ◌*ℤ◌, ◌<ℤ◌, Contains, ap, ap₂, sym, ◌∙◌, refl, subst, arith, ⊎_elim}
+use Rattle.std.proofs.Common.{◌≡◌, ◌++◌, ◌∷◌, [], ℕ, ◌*◌, ◌<◌, ◌↔◌, List, length, ℤ, pos, negsuc, ◌*ℤ◌, ◌<ℤ◌, Contains, ap, ap₂, sym, ◌∙◌, refl, subst, arith, ⊎_elim}
 use Rattle.std.proofs.lemmas.Int.{ints}
 use Rattle.std.proofs.lemmas.List.Elements.{All-contains}
 use Rattle.lattice_algebra.specs.Matrix.{Matrix, Column, entries, coordinates, ◌·◌, ◌·ᶜ◌, ◌+ᶜ◌, neg_column, times, scaled, origin, identity}
@@ -29,7 +29,7 @@ use Rattle.space_groups.proofs.Regions.{shift_in, move_near, near_in_box}
 use Rattle.space_groups.proofs.Generic.{mean_within, generic}
 use Rattle.space_groups.proofs.Keys.{same_key_same_image}
 use Rattle.space_groups.proofs.Sites.{site, sites, site_is, full, full_own}
-use Rattle.space_groups.proofs.Orbits.{orbit, order_times_multiplicity}
+use Rattle.space_groups.proofs.Orbits.{orbit, site_times_orbit}
 use Rattle.space_groups.proofs.Blocks.{matrix_part, translation_part}
 
 -- the matrices of the operators have entries of size at most 2
@@ -315,24 +315,24 @@ module _ (L : SpaceGroup) where
     pub every_scaled_fits : (y : ScaledPoint) → (k : K) × FitsScaled k y
     every_scaled_fits y =
         table.every_point_fits (space L) (on_points L) (sites L) K InK all_of rows_kept (length members) some_members mult (λ z. length (orbit L z)) (λ k z. Lies unit (length members) (key k) (point_of unit z))
-        some_site (λ k. is_mult k (all_of k) (own k)) (order_times_multiplicity L) lies_from lies_to rows_grow trivial.0 all_points y
+        some_site (λ k. is_mult k (all_of k) (own k)) (site_times_orbit L) lies_from lies_to rows_grow trivial.0 all_points y
 
     pub one_row : (j k : K) (y : ScaledPoint) → FitsScaled j y → FitsScaled k y → j ≡ k
     one_row = table.fits_one (space L) (on_points L) (sites L) K InK all_of rows_kept (length members) some_members mult (λ z. length (orbit L z)) (λ k z. Lies unit (length members) (key k) (point_of unit z))
-        some_site (λ k. is_mult k (all_of k) (own k)) (order_times_multiplicity L) lies_from lies_to
+        some_site (λ k. is_mult k (all_of k) (own k)) (site_times_orbit L) lies_from lies_to
 
     pub every_row_fits : (k : K) → (y : ScaledPoint) × FitsScaled k y
     every_row_fits = table.every_row_fits (space L) (on_points L) (sites L) K InK all_of rows_kept (length members) some_members mult (λ z. length (orbit L z)) (λ k z. Lies unit (length members) (key k) (point_of unit z))
-        some_site (λ k. is_mult k (all_of k) (own k)) (order_times_multiplicity L) lies_from lies_to
+        some_site (λ k. is_mult k (all_of k) (own k)) (site_times_orbit L) lies_from lies_to
 
     pub same_row : (k : K) (x y : ScaledPoint) → FitsScaled k x → FitsScaled k y ↔ conjugates.Conjugate (space L) (on_points L) x y
     same_row = table.same_row (space L) (on_points L) (sites L) K InK all_of rows_kept (length members) some_members mult (λ z. length (orbit L z)) (λ k z. Lies unit (length members) (key k) (point_of unit z))
-        some_site (λ k. is_mult k (all_of k) (own k)) (order_times_multiplicity L) lies_from lies_to
+        some_site (λ k. is_mult k (all_of k) (own k)) (site_times_orbit L) lies_from lies_to
 
     -- some image of a point that fits a row is fixed by exactly what fixes the image of its average
     pub has_group : (k : K) (y : ScaledPoint) → FitsScaled k y → (g : Map) × IsElement unit members g × ((e : Map) → Contains (site L (moved g y)) e ↔ Contains (all_of k) e)
     has_group = table.group_from_fits (space L) (on_points L) (sites L) K InK all_of rows_kept (length members) some_members mult (λ z. length (orbit L z)) (λ k z. Lies unit (length members) (key k) (point_of unit z))
-        some_site (λ k. is_mult k (all_of k) (own k)) (order_times_multiplicity L) lies_from lies_to
+        some_site (λ k. is_mult k (all_of k) (own k)) (site_times_orbit L) lies_from lies_to
 
 -- the kept sets under other names, as after the rows are sorted
 pub renamed : (L : SpaceGroup) (J K : Type 0) (kept : AreKept L K) (f : J → K) (g : K → J) → ((k : K) → kept.key (f (g k)) ≡ kept.key k) → ((i j : J) → kept.key (f i) ≡ kept.key (f j) → i ≡ j) → AreKept L J

@@ -1,5 +1,5 @@
 -- Site-symmetry groups and orbits as lists.
-use Rattle.std.specs.Prelude.{◌≡◌, ◌≢◌, ℕ, ◌↔◌, List}
+use Rattle.std.specs.Prelude.{◌≢◌, ℕ, ◌↔◌, List}
 use Rattle.std.specs.List.{AllPairs, Contains}
 use Rattle.lattice_algebra.specs.Operator.{Operator}
 use Rattle.lattice_algebra.specs.Map.{Map}

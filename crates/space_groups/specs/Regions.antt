@@ -1,7 +1,6 @@
 -- Where the shifts of the elements lie that fix some point of an image, up to a move along the image.
 use Rattle.std.specs.Prelude.{◌≡◌, ℕ, ◌+◌, ◌*◌, ◌≤◌, ℤ, pos, unsigned_abs}
-use Rattle.lattice_algebra.specs.Matrix.{Matrix, Column, ◌+ᶜ◌, times, scaled}
-use Rattle.lattice_algebra.specs.Operator.{modulo}
+use Rattle.lattice_algebra.specs.Matrix.{Matrix, Column, times, scaled}
 use Rattle.lattice_algebra.specs.Map.{Map, IsShift}
 use Rattle.space_groups.specs.Space.{ScaledPoint}
 use Rattle.space_groups.specs.Averages.{Block}

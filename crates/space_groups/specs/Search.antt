@@ -1,5 +1,5 @@
 -- The sets that a search for the rows keeps: what each of them is, and when the search is done.
-use Rattle.std.specs.Prelude.{◌≡◌, ℕ, ◌*◌, ◌<◌, ◌≤◌, ◌≢◌, ◌↔◌, List, [], ◌∷◌, length, All, AllPairs, Contains}
+use Rattle.std.specs.Prelude.{◌≡◌, ℕ, ◌*◌, ◌<◌, ◌≢◌, ◌↔◌, List, [], ◌∷◌, length, All, AllPairs, Contains}
 use Rattle.lattice_algebra.specs.Matrix.{Matrix}
 use Rattle.lattice_algebra.specs.Operator.{Operator, IsOperator, identity_operator, product, HasEntriesWithin}
 use Rattle.lattice_algebra.specs.Map.{Map, ◌∘◌, identity_map}

@@ -1,5 +1,5 @@
 -- The space group of a list of operators, site-symmetry groups, orbits and conjugate points. International Tables A.
-use Rattle.std.specs.Prelude.{◌≡◌, ℕ, ◌<◌, ℤ, pos, ◌*ℤ◌, ◌≤ℤ◌, ◌<ℤ◌, ◌↔◌, List}
+use Rattle.std.specs.Prelude.{◌≡◌, ℕ, ◌<◌, pos, ◌*ℤ◌, ◌≤ℤ◌, ◌<ℤ◌, ◌↔◌, List}
 use Rattle.std.specs.List.{Contains}
 use Rattle.lattice_algebra.specs.Matrix.{Column, ◌·ᶜ◌, ◌+ᶜ◌, times}
 use Rattle.lattice_algebra.specs.Operator.{Operator}
@@ -47,3 +47,9 @@ point_of unit y = record { n = y.n; d = pos unit *ℤ pos y.d }
 
 unfoldable pub moved : Map → ScaledPoint → ScaledPoint
 moved g y = record { n = g.w ·ᶜ y.n +ᶜ times (pos y.d) g.s; d = y.d; some = y.some }
+
+-- ---- conjugate points, member by member
+
+-- x and y have the same element of the operator f in their site-symmetry groups, or both none
+abbrev pub HaveSameElement : ℕ → List Operator → Operator → Point → Point → Type 0
+HaveSameElement unit members f x y = (s : Map) → operator_of unit s ≡ f → IsInSite unit members x s ↔ IsInSite unit members y s
