@@ -44,7 +44,7 @@ image-same unit g p q e =
     ∙ ap₂ (λ v k. times (u *ℤ u) (g.w ·ᶜ v) +ᶜ times (u *ℤ k) g.s) e (*ℤ_comm p.d q.d)
     ∙ sym (spread g.w g.s q.n u q.d p.d)
 
-positive_times : (u : ℕ) (d : ℤ) → 0 < u → pos 0 <ℤ d → pos 0 <ℤ (pos u *ℤ d)
+pub positive_times : (u : ℕ) (d : ℤ) → 0 < u → pos 0 <ℤ d → pos 0 <ℤ (pos u *ℤ d)
 positive_times u (pos k) h p = above (u * k) (positive_product u k h (omega (arith, ints)))
 positive_times u (negsuc k) h p = absurd (omega (arith, ints))
 

@@ -1,6 +1,7 @@
 -- Blocks are a ring, they act on vectors, and maps are blocks.
-use Rattle.std.proofs.Common.{◌≡◌, ◌++◌, ◌∷◌, [], ℕ, zero, suc, ◌<◌, List, ℤ, pos, ◌+ℤ◌, ◌<ℤ◌, ap, sym, ◌∙◌, refl, arith}
+use Rattle.std.proofs.Common.{◌≡◌, ◌++◌, ◌∷◌, [], ℕ, zero, suc, List, ℤ, pos, ◌+ℤ◌, ◌*ℤ◌, ◌<ℤ◌, ap, sym, ◌∙◌, refl, arith}
 use Rattle.std.proofs.lemmas.Int.{ints}
+use lib.IntN.{*ℤ_comm}
 use Rattle.lattice_algebra.specs.Matrix.{Column, entries, coordinates, ◌·◌, ◌·ᶜ◌, ◌+ᶜ◌, ◌+ᵐ◌, times, scaled, origin}
 use Rattle.lattice_algebra.specs.Map.{Map, ◌∘◌, identity_map}
 use Rattle.lattice_algebra.proofs.Ring.{var, con, ◌⊕◌, ◌⊗◌, ring}
@@ -229,12 +230,6 @@ pub cancel_vector : (d : ℤ) (u v : Vector) → pos 0 <ℤ d → vector_scaled 
 unfolding vector_scaled
 cancel_vector d u v h e = vector_path u v (cancel_column d u.p v.p h (ap (λ (c : Vector). c.p) e)) (cancel_number d u.d v.d h (ap (λ (c : Vector). c.d) e))
 
-positive : (n : ℕ) → 0 < n → pos 0 <ℤ pos n
-positive n h = omega (arith, ints)
-
-pub free : (n : ℕ) (u v : Vector) → 0 < n → copies vector_sums n u ≡ copies vector_sums n v → u ≡ v
-free n u v h e = cancel_vector (pos n) u v (positive n h) (sym (copies-vector n u) ∙ e ∙ copies-vector n v)
-
 -- ---- multiples in products
 
 pub times_scaled : (k : ℤ) (a b : Block) → block_times a (block_scaled k b) ≡ block_scaled k (block_times a b)
@@ -257,16 +252,19 @@ scaled_times k a b =
     (column_ring r (sym_scaled K (matrix_at 0) ·ˢᶜ column_at 22 +ˢᶜ sym_times (var 25) (sym_times K (column_at 9))) (sym_times K (matrix_at 0 ·ˢᶜ column_at 22 +ˢᶜ sym_times (var 25) (column_at 9))) tt)
     (ring r ((K ⊗ var 12) ⊗ var 25) (K ⊗ (var 12 ⊗ var 25)) tt)
 
-pub scaled_twice : (j k : ℤ) (a : Block) → block_scaled j (block_scaled k a) ≡ block_scaled k (block_scaled j a)
+pub scaled_product : (j k : ℤ) (a : Block) → block_scaled j (block_scaled k a) ≡ block_scaled (j *ℤ k) a
 unfolding block_scaled times scaled
-scaled_twice j k a =
+scaled_product j k a =
     let r = j ∷ k ∷ Values a in
     let J = var 0 in
     let K = var 1 in
     block_path _ _
-    (matrix_ring r (sym_scaled J (sym_scaled K (matrix_at 2))) (sym_scaled K (sym_scaled J (matrix_at 2))) tt)
-    (column_ring r (sym_times J (sym_times K (column_at 11))) (sym_times K (sym_times J (column_at 11))) tt)
-    (ring r (J ⊗ (K ⊗ var 14)) (K ⊗ (J ⊗ var 14)) tt)
+    (matrix_ring r (sym_scaled J (sym_scaled K (matrix_at 2))) (sym_scaled (J ⊗ K) (matrix_at 2)) tt)
+    (column_ring r (sym_times J (sym_times K (column_at 11))) (sym_times (J ⊗ K) (column_at 11)) tt)
+    (ring r (J ⊗ (K ⊗ var 14)) ((J ⊗ K) ⊗ var 14) tt)
+
+pub scaled_twice : (j k : ℤ) (a : Block) → block_scaled j (block_scaled k a) ≡ block_scaled k (block_scaled j a)
+scaled_twice j k a = scaled_product j k a ∙ ap (λ m. block_scaled m a) (*ℤ_comm j k) ∙ sym (scaled_product k j a)
 
 pub on_scaled : (k : ℤ) (a : Block) (v : Vector) → block_on (block_scaled k a) v ≡ vector_scaled k (block_on a v)
 unfolding block_on block_scaled vector_scaled ◌·ᶜ◌ ◌+ᶜ◌ times scaled

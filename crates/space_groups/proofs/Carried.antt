@@ -1,21 +1,20 @@
 -- What an element of the space group makes of an average: g a g^-1. Images go along, and averages that are the means of all that fixes their images are one where their images are.
-use Rattle.std.proofs.Common.{◌≡◌, ◌∷◌, [], ℕ, ◌<◌, ◌↔◌, List, ℤ, pos, ◌*ℤ◌, Contains, ap, ap₂, sym, ◌∙◌, refl, subst}
+use Rattle.std.proofs.Common.{◌≡◌, ◌∷◌, [], ℕ, ◌↔◌, ℤ, pos, ◌*ℤ◌, Contains, ap, ap₂, sym, ◌∙◌, refl, subst}
 use Rattle.lattice_algebra.specs.Matrix.{det, adjugate, scaled, neg_column, ◌·ᶜ◌}
 use Rattle.lattice_algebra.specs.Map.{Map, ◌∘◌, identity_map, undo}
 use Rattle.lattice_algebra.proofs.Ring.{var, con, ◌⊗◌, ring}
 use Rattle.lattice_algebra.proofs.Maps.{∘_assoc, ∘-identity}
 use Rattle.lattice_algebra.proofs.Numbers.{above}
 use Rattle.finite_groups.specs.Groups.{Action}
-use Rattle.finite_groups.specs.Words.{IsClosedList}
 use Rattle.finite_groups.proofs.Basics as basics
 use Rattle.finite_groups.proofs.Conjugates as conjugates
 use Rattle.space_groups.specs.Space.{IsElement, ScaledPoint, moved}
-use Rattle.space_groups.specs.Averages.{Block, block_of, block_times, block_scaled, block_on, vector_scaled, IsMean, IsInImage}
+use Rattle.space_groups.specs.Averages.{Block, block_of, block_times, block_scaled, block_on, vector_scaled, IsInImage}
 use Rattle.space_groups.specs.Keys.{carried}
 use Rattle.space_groups.proofs.Blocks.{block_of-∘, cancel_block, times_scaled, scaled_times, on_scaled, to_scaled, on_times, block_times_assoc, identity_times, times_identity}
 use Rattle.space_groups.proofs.Elements.{SpaceGroup, space, on_points}
 use Rattle.space_groups.proofs.Means as means
-use Rattle.space_groups.proofs.Means.{vec, vec-moved, vec-made, image_on, on_image, made, Keeps, same_on_points}
+use Rattle.space_groups.proofs.Means.{Averaged, vec, vec-moved, vec-made, image_on, on_image, made, Keeps, same_on_points}
 
 undo_identity : undo identity_map ≡ identity_map
 unfolding undo det adjugate scaled neg_column ◌·ᶜ◌
@@ -103,36 +102,33 @@ module _ (L : SpaceGroup) where
       ∙ sym (block_times_assoc H a U) ∙ ap (λ x. block_times x U) (block_times_assoc G a a ∙ ap (block_times G) two ∙ times_scaled a.n G a) ∙ scaled_times a.n H U
       ∙ ap (λ k. block_scaled k (block_times H U)) (sym (carried-number g a))
 
-  -- a is the average of all that fixes its image
-  pub record IsOwn (n : ℕ) (full : List Map) (a : Block) : Type 0 where
-    pub closed : IsClosedList (space L) full
-    pub mean : IsMean n full a
-    pub exactly : (e : Map) → Contains full e ↔ (IsElement unit members e × Keeps a e)
+  -- the list has each element that leaves the average as it is: each that fixes its whole image
+  abbrev pub IsOwn : {n : ℕ} → Averaged L n → Type 0
+  IsOwn m = (e : Map) → Contains m.list e ↔ (IsElement unit members e × Keeps m.average e)
 
-  module _ (n : ℕ) (n_some : 0 < n) where
-    -- where g carries the image of a onto that of b, it carries a to b
-    pub carried_same : (a b : Block) (fs hs : List Map) → IsOwn n fs a → IsOwn n hs b → (g : Map) → IsElement unit members g → ((y : ScaledPoint) → IsInImage a y ↔ IsInImage b (moved g y)) → carried g a ≡ b
-    carried_same a b fs hs p q g m same = cancel_block (pos n) _ _ (above n n_some) (sym from_members ∙ from_points)
-      where
-        from_members : block_times (carried g a) b ≡ block_scaled (pos n) (carried g a)
-        from_members = means.times_average L n n_some hs q.closed b q.mean (carried g a) (λ e c.
-            let f : Map = (undo g ∘ e) ∘ g in
-            let ein : IsElement unit members e = ((q.exactly e).0 c).0 in
-            let fin : IsElement unit members f = (space L).mul_in (undo g ∘ e) g ((space L).mul_in (undo g) e ((space L).inv_in g m) ein) m in
-            let is : conjugates.conj (space L) (on_points L) g f ≡ e = conjugates.conj_onto (space L) (on_points L) g e m ein in
-            let fixes : (y : ScaledPoint) → IsInImage a y → moved f y ≡ y = λ y i.
-            conjugates.act_apart (space L) (on_points L) g (moved f y) y m
-            (sym (conjugates.act_conj (space L) (on_points L) g f y m fin) ∙ ap (λ h. moved h (moved g y)) is ∙ means.image_fixed L n n_some hs q.closed b q.mean (moved g y) ((same y).0 i) e c) in
-            let k : Keeps a f = (means.full_exactly L n n_some fs p.closed a p.mean f).1 fixes in
-            kept_right g a e f (means.member_kept L n n_some fs p.closed a p.mean f ((p.exactly f).1 (fin, k)))
-            (∘_assoc (undo g ∘ e) g (undo g) ∙ ap (λ h. (undo g ∘ e) ∘ h) ((space L).inv_right g m) ∙ ∘-identity (undo g ∘ e)))
+  -- where g carries the image of the one average onto that of the other, it carries the one to the other
+  pub carried_same : {n : ℕ} (v w : Averaged L n) → IsOwn v → IsOwn w → (g : Map) → IsElement unit members g → ((y : ScaledPoint) → IsInImage v.average y ↔ IsInImage w.average (moved g y)) → carried g v.average ≡ w.average
+  carried_same {n} v w own own' g m same = cancel_block (pos n) _ _ (above n v.some) (sym from_members ∙ from_points)
+    where
+      from_members : block_times (carried g v.average) w.average ≡ block_scaled (pos n) (carried g v.average)
+      from_members = means.times_average w (carried g v.average) (λ e c.
+          let f : Map = (undo g ∘ e) ∘ g in
+          let ein : IsElement unit members e = ((own' e).0 c).0 in
+          let fin : IsElement unit members f = (space L).mul_in (undo g ∘ e) g ((space L).mul_in (undo g) e ((space L).inv_in g m) ein) m in
+          let is : conjugates.conj (space L) (on_points L) g f ≡ e = conjugates.conj_onto (space L) (on_points L) g e m ein in
+          let fixes : (y : ScaledPoint) → IsInImage v.average y → moved f y ≡ y = λ y i.
+          conjugates.act_apart (space L) (on_points L) g (moved f y) y m
+          (sym (conjugates.act_conj (space L) (on_points L) g f y m fin) ∙ ap (λ h. moved h (moved g y)) is ∙ means.image_fixed w (moved g y) ((same y).0 i) e c) in
+          let k : Keeps v.average f = (means.full_exactly v f).1 fixes in
+          kept_right g v.average e f (means.member_kept v f ((own f).1 (fin, k)))
+          (∘_assoc (undo g ∘ e) g (undo g) ∙ ap (λ h. (undo g ∘ e) ∘ h) ((space L).inv_right g m) ∙ ∘-identity (undo g ∘ e)))
 
-        from_points : block_times (carried g a) b ≡ block_scaled (pos n) b
-        from_points = same_on_points _ _ (numbers (carried g a) b (pos n) (carried-number g a ∙ means.number L n n_some fs p.closed a p.mean)) (λ y.
-            let z : ScaledPoint = made n n_some b y in
-            let is : vec z ≡ block_on b (vec y) = vec-made n n_some b y (means.number L n n_some hs q.closed b q.mean) in
-            let i : IsInImage b z = means.made_in_image n n_some b y (means.number L n n_some hs q.closed b q.mean) (means.idempotent_itself L n n_some hs q.closed b q.mean) in
-            let there : moved g (moved (undo g) z) ≡ z = conjugates.act_there (space L) (on_points L) g z m in
-            let j : IsInImage (carried g a) z = subst (IsInImage (carried g a)) there (image_carried g a (moved (undo g) z) m ((same (moved (undo g) z)).1 (subst (IsInImage b) (sym there) i))) in
-            on_times (carried g a) b (vec y) ∙ ap (block_on (carried g a)) (sym is) ∙ image_on (carried g a) z j
-            ∙ ap₂ vector_scaled (carried-number g a ∙ means.number L n n_some fs p.closed a p.mean) is ∙ sym (on_scaled (pos n) b (vec y)))
+      from_points : block_times (carried g v.average) w.average ≡ block_scaled (pos n) w.average
+      from_points = same_on_points _ _ (numbers (carried g v.average) w.average (pos n) (carried-number g v.average ∙ means.number v)) (λ y.
+          let z : ScaledPoint = made n v.some w.average y in
+          let is : vec z ≡ block_on w.average (vec y) = vec-made n v.some w.average y (means.number w) in
+          let i : IsInImage w.average z = means.made_in_image n v.some w.average y (means.number w) (means.idempotent_itself w) in
+          let there : moved g (moved (undo g) z) ≡ z = conjugates.act_there (space L) (on_points L) g z m in
+          let j : IsInImage (carried g v.average) z = subst (IsInImage (carried g v.average)) there (image_carried g v.average (moved (undo g) z) m ((same (moved (undo g) z)).1 (subst (IsInImage w.average) (sym there) i))) in
+          on_times (carried g v.average) w.average (vec y) ∙ ap (block_on (carried g v.average)) (sym is) ∙ image_on (carried g v.average) z j
+          ∙ ap₂ vector_scaled (carried-number g v.average ∙ means.number v) is ∙ sym (on_scaled (pos n) w.average (vec y)))

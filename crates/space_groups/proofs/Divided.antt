@@ -1,13 +1,12 @@
 -- A closed list of maps has as many members as divides the number of operators; so its average over that number is whole.
-use Rattle.std.proofs.Common.{◌≡◌, ◌∷◌, ℕ, ◌*◌, ◌<◌, List, length, map, pos, Contains, ap, sym, ◌∙◌, refl, subst, arith}
+use Rattle.std.proofs.Common.{◌≡◌, ℕ, ◌*◌, ◌<◌, List, length, map, pos, Contains, ap, sym, ◌∙◌, refl, subst, arith}
 use Rattle.std.proofs.lemmas.List.{length-map}
 use Rattle.std.proofs.lemmas.List.Elements.{All-contains, Contains-get_or}
-use Rattle.lattice_algebra.specs.Matrix.{times, scaled, origin}
+use lib.IntN.{*ℤ_comm}
+use Rattle.lattice_algebra.specs.Matrix.{origin}
 use Rattle.lattice_algebra.specs.Operator.{Operator, IsOperator, product}
 use Rattle.lattice_algebra.specs.Map.{Map, ◌∘◌, identity_map, operator_of}
 use Rattle.lattice_algebra.proofs.Equality.{operator_eq}
-use Rattle.lattice_algebra.proofs.Ring.{var, ◌⊗◌, ring}
-use Rattle.lattice_algebra.proofs.MatrixRing.{matrix_at, column_at, sym_times, sym_scaled, column_ring, matrix_ring}
 use Rattle.lattice_algebra.proofs.Maps.{map_path, map_eq, map_eq-is, operator_of-∘}
 use Rattle.lattice_algebra.proofs.Operators.{operators, one_is}
 use Rattle.finite_groups.specs.Words.{IsClosedList}
@@ -15,22 +14,11 @@ use Rattle.finite_groups.proofs.Members as lists
 use Rattle.finite_groups.proofs.Cosets as cosets
 use Rattle.space_groups.specs.Space.{IsElement, ScaledPoint, moved}
 use Rattle.space_groups.specs.Averages.{Block, block_scaled, sum_of, IsMean}
-use Rattle.space_groups.proofs.Blocks.{Values, block_path}
+use Rattle.space_groups.proofs.Blocks.{scaled_product}
 use Rattle.space_groups.proofs.Elements.{SpaceGroup, space}
 use Rattle.space_groups.proofs.Means as means
-use Rattle.space_groups.proofs.Means.{made}
+use Rattle.space_groups.proofs.Means.{Averaged, made}
 use Rattle.space_groups.proofs.Sites.{shift_for, shift_once}
-
-block_twice : (j k : ℕ) (a : Block) → block_scaled (pos j) (block_scaled (pos k) a) ≡ block_scaled (pos (k * j)) a
-unfolding block_scaled scaled times
-block_twice j k a =
-    let r = pos j ∷ pos k ∷ Values a in
-    let J = var 0 in
-    let K = var 1 in
-    block_path _ _
-    (matrix_ring r (sym_scaled J (sym_scaled K (matrix_at 2))) (sym_scaled (K ⊗ J) (matrix_at 2)) tt)
-    (column_ring r (sym_times J (sym_times K (column_at 11))) (sym_times (K ⊗ J) (column_at 11)) tt)
-    (ring r (J ⊗ (K ⊗ var 14)) ((K ⊗ J) ⊗ var 14) tt)
 
 same_rotation : (unit : ℕ) (e f : Map) → operator_of unit e ≡ operator_of unit f → e.w ≡ f.w
 unfolding operator_of
@@ -52,9 +40,9 @@ module _ (L : SpaceGroup) where
       let n = length ss in
       let a = sum_of ss in
       let h : 0 < length ss = omega (arith, c.has_one.1) in
+      let m : Averaged L n = record { some = h; list = ss; closed = c; average = a; is_mean = refl } in
       let y = made n h a some_point in
-      let i = means.made_in_image n h a some_point (means.number L n h ss c a refl) (means.idempotent_itself L n h ss c a refl) in
-      (y, λ e m. means.image_fixed L n h ss c a refl y i e m)
+      (y, λ e c. means.image_fixed m y (means.made_in_image n h a some_point (means.number m) (means.idempotent_itself m)) e c)
 
   operators_closed : (ss : List Map) → IsClosedList (space L) ss → IsClosedList (operators unit some) (map (operator_of unit) ss)
   operators_closed ss c =
@@ -80,4 +68,4 @@ module _ (L : SpaceGroup) where
 
   -- the average over the number of members
   pub mean_exists : (ss : List Map) → IsClosedList (space L) ss → (a : Block) × IsMean (length members) ss a
-  mean_exists ss c = let d = divides ss c in (block_scaled (pos d.0) (sum_of ss), block_twice (length ss) d.0 (sum_of ss) ∙ ap (λ k. block_scaled (pos k) (sum_of ss)) (sym d.1))
+  mean_exists ss c = let d = divides ss c in (block_scaled (pos d.0) (sum_of ss), scaled_product (pos (length ss)) (pos d.0) (sum_of ss) ∙ ap (λ k. block_scaled k (sum_of ss)) (*ℤ_comm (pos (length ss)) (pos d.0) ∙ ap pos (sym d.1)))

@@ -2,57 +2,58 @@
 use Rattle.std.proofs.Common.{◌≡◌, ◌∷◌, [], ℕ, ◌+◌, ◌*◌, ◌<◌, ◌≤◌, List, length, ℤ, pos, ◌+ℤ◌, ◌-ℤ◌, ◌*ℤ◌, unsigned_abs, Contains, ap, sym, ◌∙◌, refl, arith, mul-le-mul, le_refl}
 use Rattle.std.proofs.lemmas.Int.{ints, unsigned_abs-mul}
 use native.Mathlib.Nat.{le_of_mul-le-mul_left}
-use Rattle.lattice_algebra.specs.Matrix.{Matrix, ◌·◌, ◌·ᶜ◌, ◌+ᶜ◌, ◌+ᵐ◌, times, scaled}
+use Rattle.lattice_algebra.specs.Matrix.{Matrix, ◌·◌, ◌·ᶜ◌, ◌+ᶜ◌, times, scaled, no_matrix}
+use Rattle.lattice_algebra.proofs.Powers.{within-+ᵐ}
 use Rattle.lattice_algebra.specs.Operator.{HasEntriesWithin, AreWithin}
 use Rattle.lattice_algebra.specs.Map.{Map}
-use Rattle.lattice_algebra.proofs.Numbers.{abs_add, abs_sub, abs_mul, positive_product, digits}
+use Rattle.lattice_algebra.proofs.Numbers.{abs_sub, positive_product, digits}
 use Rattle.lattice_algebra.proofs.Ring.{Expr, var, con, ◌⊕◌, ◌⊖◌, ◌⊗◌, known, ring_from}
 use Rattle.finite_groups.proofs.Members as lists
 use Rattle.space_groups.specs.Space.{ScaledPoint, moved}
 use Rattle.space_groups.specs.Averages.{Block, Vector, block_of, block_plus, block_times, block_scaled, block_on, sum_of, IsMean, IsInImage}
+use Rattle.space_groups.proofs.RowSizes.{row_size}
 use Rattle.space_groups.proofs.Blocks.{block_path, on_times, number_times}
 use Rattle.space_groups.proofs.Means.{vec, vec-moved, vec-made, made, made_in_image, Keeps}
 
 -- ---- the entries of an average are at most twice its number
 
-module _ (entry : Matrix → ℤ) (entry_plus : (m n : Matrix) → entry (m +ᵐ n) ≡ entry m +ℤ entry n) (entry_scaled : (k : ℤ) (m : Matrix) → entry (scaled k m) ≡ k *ℤ entry m) where
-  sum_within : (b : ℕ) (list : List Map) → entry (sum_of []).m ≡ pos 0 → ((e : Map) → Contains list e → unsigned_abs (entry e.w) ≤ b) → unsigned_abs (entry (sum_of list).m) ≤ length list * b
-  unfolding block_plus block_of
-  sum_within b [] z h = omega (arith, ap unsigned_abs z)
-  sum_within b (g ∷ gs) z h =
-      let i = sum_within b gs z (λ e c. h e (lists.Contains-later e g gs c)) in
-      omega (arith, ap unsigned_abs (entry_plus g.w (sum_of gs).m), abs_add (entry g.w) (entry (sum_of gs).m), h g (lists.Contains-here g gs))
+nothing_within : HasEntriesWithin 0 no_matrix
+nothing_within =
+    let row : AreWithin 0 (pos 0) (pos 0) (pos 0) = record { first = le_refl 0; second = le_refl 0; third = le_refl 0 } in
+    record { x = row; y = row; z = row }
 
-  entry_within : (n b : ℕ) (list : List Map) (a : Block) → 0 < length list → IsMean n list a → entry (sum_of []).m ≡ pos 0 → ((e : Map) → Contains list e → unsigned_abs (entry e.w) ≤ b) → unsigned_abs (entry a.m) ≤ n * b
-  unfolding block_scaled
-  entry_within n b list a some mean z h =
-      let l = length list in
-      let s = (sum_of list).m in
-      let e : pos l *ℤ entry a.m ≡ pos n *ℤ entry s = sym (entry_scaled (pos l) a.m) ∙ ap (λ (v : Block). entry v.m) mean ∙ entry_scaled (pos n) s in
-      let f : l * unsigned_abs (entry a.m) ≡ n * unsigned_abs (entry s) = sym (unsigned_abs-mul (pos l) (entry a.m)) ∙ ap unsigned_abs e ∙ unsigned_abs-mul (pos n) (entry s) in
-      let g : n * unsigned_abs (entry s) ≤ n * (l * b) = mul-le-mul (le_refl n) (sum_within b list z h) in
-      let o : l * unsigned_abs (entry a.m) ≤ l * (n * b) = omega arith in
-      le_of_mul-le-mul_left o some
+sum_within : (list : List Map) → ((e : Map) → Contains list e → HasEntriesWithin 2 e.w) → HasEntriesWithin (length list * 2) (sum_of list).m
+unfolding block_plus block_of
+sum_within [] h = nothing_within
+sum_within (g ∷ gs) h =
+    let rest = sum_within gs (λ e c. h e (lists.Contains-later e g gs c)) in
+    within-+ᵐ 2 (length gs * 2) (length (g ∷ gs) * 2) g.w (sum_of gs).m (h g (lists.Contains-here g gs)) rest (omega arith)
+
+-- where l x = n y and y is at most l b, x is at most n b
+divided : (l n b : ℕ) (x y : ℤ) → 0 < l → pos l *ℤ x ≡ pos n *ℤ y → unsigned_abs y ≤ l * b → unsigned_abs x ≤ n * b
+divided l n b x y some e h =
+    let f : l * unsigned_abs x ≡ n * unsigned_abs y = sym (unsigned_abs-mul (pos l) x) ∙ ap unsigned_abs e ∙ unsigned_abs-mul (pos n) y in
+    let g : n * unsigned_abs y ≤ n * (l * b) = mul-le-mul (le_refl n) h in
+    let o : l * unsigned_abs x ≤ l * (n * b) = omega arith in
+    le_of_mul-le-mul_left o some
+
+matrix_mean : (n : ℕ) (list : List Map) (a : Block) → IsMean n list a → scaled (pos (length list)) a.m ≡ scaled (pos n) (sum_of list).m
+unfolding block_scaled
+matrix_mean n list a mean = ap (λ (v : Block). v.m) mean
+
+divided_entries : (l n b : ℕ) (a s : Matrix) → 0 < l → scaled (pos l) a ≡ scaled (pos n) s → HasEntriesWithin (l * b) s → HasEntriesWithin (n * b) a
+unfolding scaled
+divided_entries l n b a s some e h =
+    let at : (f : Matrix → ℤ) (x y : ℤ) → f (scaled (pos l) a) ≡ pos l *ℤ x → f (scaled (pos n) s) ≡ pos n *ℤ y → unsigned_abs y ≤ l * b → unsigned_abs x ≤ n * b =
+    λ f x y p q. divided l n b x y some (sym p ∙ ap f e ∙ q) in
+    record {
+      x = record { first = at (λ m. m.xx) a.xx s.xx refl refl h.x.first; second = at (λ m. m.xy) a.xy s.xy refl refl h.x.second; third = at (λ m. m.xz) a.xz s.xz refl refl h.x.third };
+      y = record { first = at (λ m. m.yx) a.yx s.yx refl refl h.y.first; second = at (λ m. m.yy) a.yy s.yy refl refl h.y.second; third = at (λ m. m.yz) a.yz s.yz refl refl h.y.third };
+      z = record { first = at (λ m. m.zx) a.zx s.zx refl refl h.z.first; second = at (λ m. m.zy) a.zy s.zy refl refl h.z.second; third = at (λ m. m.zz) a.zz s.zz refl refl h.z.third };
+    }
 
 pub mean_within : (n : ℕ) (list : List Map) (a : Block) → 0 < length list → IsMean n list a → ((e : Map) → Contains list e → HasEntriesWithin 2 e.w) → HasEntriesWithin (n * 2) a.m
-unfolding ◌+ᵐ◌ scaled
-mean_within n list a some mean h = record {
-  x = record {
-    first = entry_within (λ m. m.xx) (λ _ _. refl) (λ _ _. refl) n 2 list a some mean refl (λ e c. (h e c).x.first);
-    second = entry_within (λ m. m.xy) (λ _ _. refl) (λ _ _. refl) n 2 list a some mean refl (λ e c. (h e c).x.second);
-    third = entry_within (λ m. m.xz) (λ _ _. refl) (λ _ _. refl) n 2 list a some mean refl (λ e c. (h e c).x.third);
-  };
-  y = record {
-    first = entry_within (λ m. m.yx) (λ _ _. refl) (λ _ _. refl) n 2 list a some mean refl (λ e c. (h e c).y.first);
-    second = entry_within (λ m. m.yy) (λ _ _. refl) (λ _ _. refl) n 2 list a some mean refl (λ e c. (h e c).y.second);
-    third = entry_within (λ m. m.yz) (λ _ _. refl) (λ _ _. refl) n 2 list a some mean refl (λ e c. (h e c).y.third);
-  };
-  z = record {
-    first = entry_within (λ m. m.zx) (λ _ _. refl) (λ _ _. refl) n 2 list a some mean refl (λ e c. (h e c).z.first);
-    second = entry_within (λ m. m.zy) (λ _ _. refl) (λ _ _. refl) n 2 list a some mean refl (λ e c. (h e c).z.second);
-    third = entry_within (λ m. m.zz) (λ _ _. refl) (λ _ _. refl) n 2 list a some mean refl (λ e c. (h e c).z.third);
-  };
-}
+mean_within n list a some mean h = divided_entries (length list) n 2 a.m (sum_of list).m some (matrix_mean n list a mean) (sum_within list h)
 
 -- ---- the generic point
 
@@ -77,7 +78,7 @@ change_within n w0 w1 w2 m0 m1 m2 m p0 p1 p2 q0 q1 q2 q =
     let a0 : unsigned_abs w0 * (n * 2) ≤ 2 * (n * 2) = mul-le-mul p0 (le_refl (n * 2)) in
     let a1 : unsigned_abs w1 * (n * 2) ≤ 2 * (n * 2) = mul-le-mul p1 (le_refl (n * 2)) in
     let a2 : unsigned_abs w2 * (n * 2) ≤ 2 * (n * 2) = mul-le-mul p2 (le_refl (n * 2)) in
-    let s : unsigned_abs row ≤ 12 * n = omega (arith, abs_add (w0 *ℤ m0 +ℤ w1 *ℤ m1) (w2 *ℤ m2), abs_add (w0 *ℤ m0) (w1 *ℤ m1), abs_mul w0 m0 (n * 2) q0, abs_mul w1 m1 (n * 2) q1, abs_mul w2 m2 (n * 2) q2) in
+    let s : unsigned_abs row ≤ 12 * n = omega (arith, row_size w0 w1 w2 m0 m1 m2 (n * 2) (n * 2) (n * 2) q0 q1 q2) in
     omega (arith, abs_sub row m)
 
 same_from_zero : (a b : ℤ) → a -ℤ b ≡ pos 0 → a ≡ b

@@ -18,8 +18,9 @@ use Rattle.space_groups.specs.Keys.{carried, Key, key_of, IsBelow, ComesBefore, 
 use Rattle.space_groups.proofs.Blocks.{block_path, translation_part}
 use Rattle.space_groups.proofs.Elements.{SpaceGroup, space}
 use Rattle.space_groups.proofs.Means as means
+use Rattle.space_groups.proofs.Means.{Averaged}
 use Rattle.space_groups.proofs.Carried.{carried-∘, carried-number, on_blocks, image_along, carried_idempotent, IsOwn, carried_same}
-use Rattle.space_groups.proofs.Regions.{shift_in, split_shift}
+use Rattle.space_groups.proofs.Regions.{shift_in, whole_part}
 
 -- ---- the order
 
@@ -227,17 +228,16 @@ module _ (L : SpaceGroup) where
       → (f : Operator) × (k : Column) × Contains members f × AreParts q k × (key_of unit n (carried g a) ≡ key_of unit n (carried (element_of f k) a))
   unfolding operator_of
   candidate q n hq hn r a number whole g m =
-      let c = modulo_is unit some g.s in
-      let k0 = neg_column c.0 in
-      let d = modulo_is q hq k0 in
-      let k = modulo q k0 in
-      let j = neg_column d.0 in
+      let c = whole_part unit some g.s in
+      let d = whole_part q hq c.0 in
+      let k = modulo q c.0 in
+      let j = d.0 in
       let is : g.s ≡ (modulo unit g.s +ᶜ times (pos unit) k) +ᶜ times (pos unit) (times (pos q) j) =
-      split_shift g.s (modulo unit g.s) c.0 (pos unit) c.1 ∙ ap (λ v. modulo unit g.s +ᶜ times (pos unit) v) (split_shift k0 k d.0 (pos q) d.1) ∙ regroup (modulo unit g.s) k (times (pos q) j) (pos unit) in (
+      c.1 ∙ ap (λ v. modulo unit g.s +ᶜ times (pos unit) v) d.1 ∙ regroup (modulo unit g.s) k (times (pos q) j) (pos unit) in (
         operator_of unit g,
         k,
         m,
-        modulo_parts q hq k0,
+        modulo_parts q hq c.0,
         ap (λ s. key_of unit n (carried (record { w = g.w; s = s }) a)) is ∙ same_candidate unit q n (positive_product unit n some hn) r a number whole g.w (modulo unit g.s +ᶜ times (pos unit) k) j,
       )
 
@@ -267,13 +267,13 @@ module _ (L : SpaceGroup) where
         let j : IsElement unit members (h ∘ g) = (space L).mul_in h g i m in
         (h ∘ g, j, image_along L (h ∘ g) a b j (carried-∘ L h g a i m ∙ s.1))
 
-    -- averages of all that fixes their images have one key exactly where an element carries the image of one onto that of the other
-    pub same_key_same_image : (a b : Block) (p p' : Key) (fs hs : List Map) → IsOwn L n fs a → IsOwn L n hs b → IsKey unit members n a p → IsKey unit members n b p'
-        → (p ≡ p') ↔ ((g : Map) × IsElement unit members g × ((y : ScaledPoint) → IsInImage a y ↔ IsInImage b (moved g y)))
-    same_key_same_image a b p p' fs hs o o' f h =
-        let x = means.number L n n_some fs o.closed a o.mean in
-        let y = means.number L n n_some hs o'.closed b o'.mean in
-        let k = same_key a b p p' x y f h in (
-          (λ e. same_rest_same_image a b x y (means.idempotent_itself L n n_some fs o.closed a o.mean) (means.idempotent_itself L n n_some hs o'.closed b o'.mean) (k.0 e).0 (k.0 e).1 (k.0 e).2),
-          (λ r. k.1 (r.0, r.1, ap (key_of unit n) (carried_same L n n_some a b fs hs o o' r.0 r.1 r.2))),
-        )
+  -- averages of all that fixes their images have one key exactly where an element carries the image of one onto that of the other
+  pub same_key_same_image : {n : ℕ} (v w : Averaged L n) (p q : Key) → IsOwn L v → IsOwn L w → IsKey unit members n v.average p → IsKey unit members n w.average q
+      → (p ≡ q) ↔ ((g : Map) × IsElement unit members g × ((y : ScaledPoint) → IsInImage v.average y ↔ IsInImage w.average (moved g y)))
+  same_key_same_image {n} v w p q own own' f h =
+      let a = v.average in
+      let b = w.average in
+      let k = same_key n v.some a b p q (means.number v) (means.number w) f h in (
+        (λ e. same_rest_same_image n v.some a b (means.number v) (means.number w) (means.idempotent_itself v) (means.idempotent_itself w) (k.0 e).0 (k.0 e).1 (k.0 e).2),
+        (λ r. k.1 (r.0, r.1, ap (key_of unit n) (carried_same L v w own own' r.0 r.1 r.2))),
+      )

@@ -7,13 +7,12 @@ use Rattle.lattice_algebra.specs.Point.{Point, IsPoint, ◌≈◌, image}
 use Rattle.lattice_algebra.proofs.MatrixRing.{column_at, ◌+ˢᶜ◌, sym_neg, column_ring}
 use Rattle.lattice_algebra.proofs.Numbers.{above}
 use Rattle.lattice_algebra.proofs.Columns.{cancel_column}
-use Rattle.lattice_algebra.proofs.Remainders.{modulo_is}
 use Rattle.lattice_algebra.proofs.Points.{≈_sym, ≈_trans, image-same, IsPoint-image}
 use Rattle.finite_groups.proofs.Conjugates as conjugates
 use Rattle.space_groups.specs.Space.{IsElement, IsInSite, IsInOrbit, AreConjugate, HaveSameElement, moved, point_of}
 use Rattle.space_groups.specs.Lists.{IsSiteList, IsOrbitList}
 use Rattle.space_groups.proofs.Elements.{SpaceGroup, space, on_points}
-use Rattle.space_groups.proofs.Regions.{split_shift}
+use Rattle.space_groups.proofs.Regions.{whole_part}
 use Rattle.space_groups.proofs.Sites.{site}
 use Rattle.space_groups.proofs.Orbits.{site_times_orbit}
 use Rattle.space_groups.proofs.Points.{image_of, scaled_of, site-scaled, conjugate-scaled, one_inverse}
@@ -24,7 +23,7 @@ use Rattle.space_groups.proofs.Divided.{one_rotation}
 -- ---- the whole shift of a map
 
 pub shift_exists : (unit : ℕ) → 0 < unit → (g : Map) → (k : Column) × IsShift unit g k
-shift_exists unit h g = let m = modulo_is unit h g.s in (neg_column m.0, split_shift g.s (modulo unit g.s) m.0 (pos unit) m.1)
+shift_exists unit h g = whole_part unit h g.s
 
 without_left : (r c : Column) → neg_column r +ᶜ (r +ᶜ c) ≡ c
 unfolding ◌+ᶜ◌ neg_column

@@ -3,6 +3,7 @@ pub mod Elements
 pub mod Blocks
 pub mod Means
 pub mod Carried
+pub mod RowSizes
 pub mod Regions
 pub mod Generic
 pub mod Keys

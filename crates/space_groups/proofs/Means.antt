@@ -89,81 +89,88 @@ scaled-number : (j k : ℤ) (a b : Block) → block_scaled j a ≡ block_scaled 
 unfolding block_scaled
 scaled-number j k a b e = ap (λ (v : Block). v.n) e
 
-module _ (L : SpaceGroup) where
-  open L use {unit, some, members, closed}
+pub maps_as_blocks : (L : SpaceGroup) → Representation (space L) blocks
+maps_as_blocks L = record { rep = block_of; rep_mul = λ g f _ _. block_of-∘ g f }
 
-  pub maps_as_blocks : Representation (space L) blocks
-  maps_as_blocks = record { rep = block_of; rep_mul = λ g f _ _. block_of-∘ g f }
+-- a closed list of elements of the space group, and its average over n
+pub record Averaged (L : SpaceGroup) (n : ℕ) : Type 0 where
+  pub some : 0 < n
+  pub list : List Map
+  pub closed : IsClosedList (space L) list
+  pub average : Block
+  pub is_mean : IsMean n list average
 
-  module _ (n : ℕ) (n_some : 0 < n) (ss : List Map) (c : IsClosedList (space L) ss) (a : Block) (mean : IsMean n ss a) where
-    pub some_members : 0 < length ss
-    some_members = omega (arith, c.has_one.1)
+module _ {L : SpaceGroup} {n : ℕ} (averaged : Averaged L n) where
+  open averaged use {some, list, closed, average, is_mean}
 
-    mean_total : block_scaled (pos (length ss)) a ≡ block_scaled (pos n) (total block_sums block_of ss)
-    mean_total = mean ∙ ap (block_scaled (pos n)) (sum_is ss)
+  pub some_members : 0 < length list
+  some_members = omega (arith, closed.has_one.1)
 
-    -- each member leaves the average as it is, from both sides
-    pub member_keeps : (e : Map) → Contains ss e → Keeps a e
-    unfolding maps_as_blocks
-    member_keeps e m = cancel_block (pos (length ss)) _ _ (above (length ss) some_members)
-        (sym (times_scaled (pos (length ss)) (block_of e) a) ∙ ap (block_times (block_of e)) mean_total ∙ times_scaled (pos n) (block_of e) (total block_sums block_of ss)
-        ∙ ap (block_scaled (pos n)) (averages.absorbs_left (space L) blocks maps_as_blocks ss c e m) ∙ sym mean_total)
+  mean_total : block_scaled (pos (length list)) average ≡ block_scaled (pos n) (total block_sums block_of list)
+  mean_total = is_mean ∙ ap (block_scaled (pos n)) (sum_is list)
 
-    pub member_kept : (e : Map) → Contains ss e → block_times a (block_of e) ≡ a
-    unfolding maps_as_blocks
-    member_kept e m = cancel_block (pos (length ss)) _ _ (above (length ss) some_members)
-        (sym (scaled_times (pos (length ss)) a (block_of e)) ∙ ap (λ b. block_times b (block_of e)) mean_total ∙ scaled_times (pos n) (total block_sums block_of ss) (block_of e)
-        ∙ ap (block_scaled (pos n)) (averages.absorbs_right (space L) blocks maps_as_blocks ss c e m) ∙ sym mean_total)
+  -- each member leaves the average as it is, from both sides
+  pub member_keeps : (e : Map) → Contains list e → Keeps average e
+  unfolding maps_as_blocks
+  member_keeps e m = cancel_block (pos (length list)) _ _ (above (length list) some_members)
+      (sym (times_scaled (pos (length list)) (block_of e) average) ∙ ap (block_times (block_of e)) mean_total ∙ times_scaled (pos n) (block_of e) (total block_sums block_of list)
+      ∙ ap (block_scaled (pos n)) (averages.absorbs_left (space L) blocks (maps_as_blocks L) list closed e m) ∙ sym mean_total)
 
-    -- what all members leave as it is on the left
-    pub average_times : (b : Block) → ((e : Map) → Contains ss e → Keeps b e) → block_times a b ≡ block_scaled (pos n) b
-    unfolding maps_as_blocks
-    average_times b k = cancel_block (pos (length ss)) _ _ (above (length ss) some_members)
-        (sym (scaled_times (pos (length ss)) a b) ∙ ap (λ d. block_times d b) mean_total ∙ scaled_times (pos n) (total block_sums block_of ss) b
-        ∙ ap (block_scaled (pos n)) (averages.sum_times (space L) blocks maps_as_blocks ss b k ∙ copies-block (length ss) b) ∙ scaled_twice (pos n) (pos (length ss)) b)
+  pub member_kept : (e : Map) → Contains list e → block_times average (block_of e) ≡ average
+  unfolding maps_as_blocks
+  member_kept e m = cancel_block (pos (length list)) _ _ (above (length list) some_members)
+      (sym (scaled_times (pos (length list)) average (block_of e)) ∙ ap (λ b. block_times b (block_of e)) mean_total ∙ scaled_times (pos n) (total block_sums block_of list) (block_of e)
+      ∙ ap (block_scaled (pos n)) (averages.absorbs_right (space L) blocks (maps_as_blocks L) list closed e m) ∙ sym mean_total)
 
-    pub times_average : (b : Block) → ((e : Map) → Contains ss e → block_times b (block_of e) ≡ b) → block_times b a ≡ block_scaled (pos n) b
-    unfolding maps_as_blocks
-    times_average b k = cancel_block (pos (length ss)) _ _ (above (length ss) some_members)
-        (sym (times_scaled (pos (length ss)) b a) ∙ ap (block_times b) mean_total ∙ times_scaled (pos n) b (total block_sums block_of ss)
-        ∙ ap (block_scaled (pos n)) (averages.times_sum (space L) blocks maps_as_blocks ss b k ∙ copies-block (length ss) b) ∙ scaled_twice (pos n) (pos (length ss)) b)
+  -- what all members leave as it is on the left
+  pub average_times : (b : Block) → ((e : Map) → Contains list e → Keeps b e) → block_times average b ≡ block_scaled (pos n) b
+  unfolding maps_as_blocks
+  average_times b k = cancel_block (pos (length list)) _ _ (above (length list) some_members)
+      (sym (scaled_times (pos (length list)) average b) ∙ ap (λ d. block_times d b) mean_total ∙ scaled_times (pos n) (total block_sums block_of list) b
+      ∙ ap (block_scaled (pos n)) (averages.sum_times (space L) blocks (maps_as_blocks L) list b k ∙ copies-block (length list) b) ∙ scaled_twice (pos n) (pos (length list)) b)
 
-    pub idempotent : block_times a a ≡ block_scaled (pos n) a
-    idempotent = average_times a member_keeps
+  pub times_average : (b : Block) → ((e : Map) → Contains list e → block_times b (block_of e) ≡ b) → block_times b average ≡ block_scaled (pos n) b
+  unfolding maps_as_blocks
+  times_average b k = cancel_block (pos (length list)) _ _ (above (length list) some_members)
+      (sym (times_scaled (pos (length list)) b average) ∙ ap (block_times b) mean_total ∙ times_scaled (pos n) b (total block_sums block_of list)
+      ∙ ap (block_scaled (pos n)) (averages.times_sum (space L) blocks (maps_as_blocks L) list b k ∙ copies-block (length list) b) ∙ scaled_twice (pos n) (pos (length list)) b)
 
-    pub number : a.n ≡ pos n
-    number = cancel_number (pos (length ss)) a.n (pos n) (above (length ss) some_members) (scaled-number _ _ _ _ mean ∙ ap (λ k. pos n *ℤ k) (sum-number ss) ∙ *ℤ_comm (pos n) (pos (length ss)))
+  pub idempotent : block_times average average ≡ block_scaled (pos n) average
+  idempotent = average_times average member_keeps
 
-    pub idempotent_itself : block_times a a ≡ block_scaled a.n a
-    idempotent_itself = idempotent ∙ ap (λ m. block_scaled m a) (sym number)
+  pub number : average.n ≡ pos n
+  number = cancel_number (pos (length list)) average.n (pos n) (above (length list) some_members) (scaled-number _ _ _ _ is_mean ∙ ap (λ k. pos n *ℤ k) (sum-number list) ∙ *ℤ_comm (pos n) (pos (length list)))
 
-    -- the image is the set of points that all members fix
-    pub image_fixed : (y : ScaledPoint) → IsInImage a y → (e : Map) → Contains ss e → moved e y ≡ y
-    image_fixed y i e m = kept_fixed a e y (subst (λ k. pos 0 <ℤ k) (sym number) (above n n_some)) (member_keeps e m) i
+  pub idempotent_itself : block_times average average ≡ block_scaled average.n average
+  idempotent_itself = idempotent ∙ ap (λ m. block_scaled m average) (sym number)
 
-    pub fixed_image : (y : ScaledPoint) → ((e : Map) → Contains ss e → moved e y ≡ y) → IsInImage a y
-    unfolding maps_as_blocks
-    fixed_image y h = on_image a y (cancel_vector (pos (length ss)) _ _ (above (length ss) some_members)
-        (sym (on_scaled (pos (length ss)) a (vec y)) ∙ ap (λ b. block_on b (vec y)) mean_total ∙ on_scaled (pos n) (total block_sums block_of ss) (vec y)
-        ∙ ap (vector_scaled (pos n)) (averages.sum_on_fixed (space L) blocks maps_as_blocks vectors ss (vec y) (λ e m. vec-moved e y ∙ ap vec (h e m)) ∙ copies-vector (length ss) (vec y))
-        ∙ vector_scaled_twice (pos n) (pos (length ss)) (vec y) ∙ ap (λ k. vector_scaled (pos (length ss)) (vector_scaled k (vec y))) (sym number)))
+  -- the image is the set of points that all members fix
+  pub image_fixed : (y : ScaledPoint) → IsInImage average y → (e : Map) → Contains list e → moved e y ≡ y
+  image_fixed y i e m = kept_fixed average e y (subst (λ k. pos 0 <ℤ k) (sym number) (above n some)) (member_keeps e m) i
 
-    -- the elements that fix each point of the image are those that leave the average as it is
-    pub full_exactly : (e : Map) → Keeps a e ↔ ((y : ScaledPoint) → IsInImage a y → moved e y ≡ y)
-    full_exactly e = (
-      (λ k y i. kept_fixed a e y (subst (λ m. pos 0 <ℤ m) (sym number) (above n n_some)) k i),
-      (λ h. fixed_kept n n_some a e number idempotent_itself h),
-    )
+  pub fixed_image : (y : ScaledPoint) → ((e : Map) → Contains list e → moved e y ≡ y) → IsInImage average y
+  unfolding maps_as_blocks
+  fixed_image y h = on_image average y (cancel_vector (pos (length list)) _ _ (above (length list) some_members)
+      (sym (on_scaled (pos (length list)) average (vec y)) ∙ ap (λ b. block_on b (vec y)) mean_total ∙ on_scaled (pos n) (total block_sums block_of list) (vec y)
+      ∙ ap (vector_scaled (pos n)) (averages.sum_on_fixed (space L) blocks (maps_as_blocks L) vectors list (vec y) (λ e m. vec-moved e y ∙ ap vec (h e m)) ∙ copies-vector (length list) (vec y))
+      ∙ vector_scaled_twice (pos n) (pos (length list)) (vec y) ∙ ap (λ k. vector_scaled (pos (length list)) (vector_scaled k (vec y))) (sym number)))
 
-    -- a larger closed list that leaves the average as it is has the same average
-    pub same_mean : (fs : List Map) → IsClosedList (space L) fs → ((e : Map) → Contains ss e → Contains fs e) → ((e : Map) → Contains fs e → Keeps a e) → IsMean n fs a
-    unfolding maps_as_blocks
-    same_mean fs d sub k =
-        let S = total block_sums block_of ss in
-        let T = total block_sums block_of fs in
-        let keeps : (e : Map) → Contains fs e → block_times (block_of e) S ≡ S = λ e m. cancel_block (pos n) _ _ (above n n_some)
-        (sym (times_scaled (pos n) (block_of e) S) ∙ ap (block_times (block_of e)) (sym mean_total) ∙ times_scaled (pos (length ss)) (block_of e) a ∙ ap (block_scaled (pos (length ss))) (k e m) ∙ mean_total) in
-        let sums : block_scaled (pos (length ss)) T ≡ block_scaled (pos (length fs)) S = sym (copies-block (length ss) T) ∙ averages.same_average (space L) blocks maps_as_blocks ss fs d sub keeps ∙ copies-block (length fs) S in
-        cancel_block (pos (length ss)) _ _ (above (length ss) some_members)
-        (scaled_twice (pos (length ss)) (pos (length fs)) a ∙ ap (block_scaled (pos (length fs))) mean_total ∙ scaled_twice (pos (length fs)) (pos n) S ∙ ap (block_scaled (pos n)) (sym sums)
-        ∙ scaled_twice (pos n) (pos (length ss)) T ∙ ap (λ b. block_scaled (pos (length ss)) (block_scaled (pos n) b)) (sym (sum_is fs)))
+  -- the elements that fix each point of the image are those that leave the average as it is
+  pub full_exactly : (e : Map) → Keeps average e ↔ ((y : ScaledPoint) → IsInImage average y → moved e y ≡ y)
+  full_exactly e = (
+    (λ k y i. kept_fixed average e y (subst (λ m. pos 0 <ℤ m) (sym number) (above n some)) k i),
+    (λ h. fixed_kept n some average e number idempotent_itself h),
+  )
+
+  -- a larger closed list that leaves the average as it is has the same average
+  pub same_mean : (fs : List Map) → IsClosedList (space L) fs → ((e : Map) → Contains list e → Contains fs e) → ((e : Map) → Contains fs e → Keeps average e) → IsMean n fs average
+  unfolding maps_as_blocks
+  same_mean fs d sub k =
+      let S = total block_sums block_of list in
+      let T = total block_sums block_of fs in
+      let keeps : (e : Map) → Contains fs e → block_times (block_of e) S ≡ S = λ e m. cancel_block (pos n) _ _ (above n some)
+      (sym (times_scaled (pos n) (block_of e) S) ∙ ap (block_times (block_of e)) (sym mean_total) ∙ times_scaled (pos (length list)) (block_of e) average ∙ ap (block_scaled (pos (length list))) (k e m) ∙ mean_total) in
+      let sums : block_scaled (pos (length list)) T ≡ block_scaled (pos (length fs)) S = sym (copies-block (length list) T) ∙ averages.same_average (space L) blocks (maps_as_blocks L) list fs d sub keeps ∙ copies-block (length fs) S in
+      cancel_block (pos (length list)) _ _ (above (length list) some_members)
+      (scaled_twice (pos (length list)) (pos (length fs)) average ∙ ap (block_scaled (pos (length fs))) mean_total ∙ scaled_twice (pos (length fs)) (pos n) S ∙ ap (block_scaled (pos n)) (sym sums)
+      ∙ scaled_twice (pos n) (pos (length list)) T ∙ ap (λ b. block_scaled (pos (length list)) (block_scaled (pos n) b)) (sym (sum_is fs)))

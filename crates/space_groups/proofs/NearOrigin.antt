@@ -7,7 +7,8 @@ use Rattle.lattice_algebra.specs.Operator.{HasEntriesWithin, AreParts, AreWithin
 use Rattle.lattice_algebra.specs.Map.{Map}
 use Rattle.lattice_algebra.proofs.Ring.{var, ◌⊗◌}
 use Rattle.lattice_algebra.proofs.MatrixRing.{matrix_at, column_at, ◌·ˢᶜ◌, ◌+ˢᶜ◌, sym_times, sym_neg, sym_origin, column_ring}
-use Rattle.lattice_algebra.proofs.Numbers.{abs_add, abs_mul}
+use Rattle.lattice_algebra.proofs.Numbers.{abs_sub}
+use Rattle.space_groups.proofs.RowSizes.{row_size}
 use Rattle.space_groups.specs.Averages.{Block, block_times, block_scaled}
 use Rattle.space_groups.specs.Regions.{Sizes, IsNear, IsInBox, IsReach, IsRowWithin, shift_by}
 use Rattle.space_groups.specs.Keys.{carried}
@@ -44,9 +45,6 @@ near_row unit n m0 m1 m2 r0 r1 r2 r t h e m p0 p1 p2 p =
     let s : unsigned_abs r ≤ b = omega (arith, ints) in
     sized n b m0 m1 m2 r0 r1 r2 r t h e m.first m.second m.third s0 s1 s2 s
   where
-    opposite : (a b : ℤ) → unsigned_abs (a +ℤ neg_ℤ b) ≤ unsigned_abs a + unsigned_abs b
-    opposite a b = grind (arith, ints)
-
     sized : (n b : ℕ) (m0 m1 m2 r0 r1 r2 r t : ℤ) → 0 < n → pos n *ℤ t ≡ pos n *ℤ r +ℤ neg_ℤ (m0 *ℤ r0 +ℤ m1 *ℤ r1 +ℤ m2 *ℤ r2) → unsigned_abs m0 ≤ n * 2 → unsigned_abs m1 ≤ n * 2 → unsigned_abs m2 ≤ n * 2
         → unsigned_abs r0 ≤ b → unsigned_abs r1 ≤ b → unsigned_abs r2 ≤ b → unsigned_abs r ≤ b → unsigned_abs t ≤ b * 7
     sized n b m0 m1 m2 r0 r1 r2 r t h e q0 q1 q2 s0 s1 s2 s =
@@ -57,7 +55,7 @@ near_row unit n m0 m1 m2 r0 r1 r2 r t h e m p0 p1 p2 p =
         let a : n * unsigned_abs r ≤ n * b = mul-le-mul (le_refl n) s in
         let f : n * unsigned_abs t ≡ unsigned_abs (pos n *ℤ r +ℤ neg_ℤ row) = sym (unsigned_abs-mul (pos n) t) ∙ ap unsigned_abs e in
         let g : unsigned_abs (pos n *ℤ r) ≡ n * unsigned_abs r = unsigned_abs-mul (pos n) r in
-        let l : n * unsigned_abs t ≤ n * (b * 7) = omega (arith, opposite (pos n *ℤ r) row, abs_add (m0 *ℤ r0 +ℤ m1 *ℤ r1) (m2 *ℤ r2), abs_add (m0 *ℤ r0) (m1 *ℤ r1), abs_mul m0 r0 b s0, abs_mul m1 r1 b s1, abs_mul m2 r2 b s2) in
+        let l : n * unsigned_abs t ≤ n * (b * 7) = omega (arith, abs_sub (pos n *ℤ r) row, row_size m0 m1 m2 r0 r1 r2 b b b s0 s1 s2) in
         le_of_mul-le-mul_left l h
 
 abbrev pub sevens : Sizes

@@ -123,7 +123,7 @@ some_point : ScaledPoint
 some_point = record { n = origin; d = 1; some = omega arith }
 
 in_whole : (y : ScaledPoint) → IsInImage whole_space y
-in_whole y = means.fixed_image shifts 1 (omega arith) alone alone_closed whole_space alone_mean y (λ e c. subst (λ v. moved v y ≡ y) (in_alone e c) (moved-identity y))
+in_whole y = means.fixed_image {L = shifts} (record { some = omega arith; list = alone; closed = alone_closed; average = whole_space; is_mean = alone_mean }) y (λ e c. subst (λ v. moved v y ≡ y) (in_alone e c) (moved-identity y))
 
 -- the elements that fix all points are the identity alone
 full_length : (list : List Map) → IsFull 12 only whole_space list → length list * 1 ≡ 1

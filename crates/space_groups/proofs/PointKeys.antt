@@ -22,13 +22,13 @@ use Rattle.space_groups.proofs.ScaledPoints.{moved-∘}
 use Rattle.space_groups.proofs.Blocks.{block_sums, cancel_block}
 use Rattle.space_groups.proofs.Elements.{SpaceGroup, space, on_points}
 use Rattle.space_groups.proofs.Means as means
-use Rattle.space_groups.proofs.Means.{sum_is}
+use Rattle.space_groups.proofs.Means.{Averaged, sum_is}
 use Rattle.space_groups.proofs.Near.{turned, carried_mean, turned_distinct}
 use Rattle.space_groups.proofs.Divided.{mean_exists}
-use Rattle.space_groups.proofs.Sites.{site, site_is, site_distinct}
+use Rattle.space_groups.proofs.Sites.{site, site_is, site_distinct, full_of}
 use Rattle.space_groups.proofs.SiteLists.{one_length, site_closed, site_list}
 use Rattle.space_groups.proofs.Points.{IsPoint-scaled, image_of, scaled_of, site-scaled}
-use Rattle.space_groups.proofs.Rows.{some_members, image_lies, AreNarrow, AreKept, FitsScaled, has_group, own}
+use Rattle.space_groups.proofs.Rows.{some_members, image_lies, AreKept, FitsScaled, has_group}
 
 -- lists that have the same maps, each once, have the same average
 pub mean_once : (n : ℕ) (xs ys : List Map) (a b : Block) → IsDistinct map_eq xs → IsDistinct map_eq ys → ((e : Map) → Contains xs e ↔ Contains ys e) → 0 < length xs → IsMean n xs a → IsMean n ys b → a ≡ b
@@ -69,27 +69,27 @@ module _ (L : SpaceGroup) where
       (turned_distinct L h fs m (λ e d. All-contains (IsElement unit members) fs e c.valid d) c.distinct)
       (site_distinct L (moved h y)) (turned_site h y fs m same) (omega (arith, c.has_one.1, length-map fs (turned h))) (carried_mean h (length members) fs a p) q
 
-  module _ (narrow : AreNarrow members) (K : Type 0) (kept : AreKept L K) where
+  module _ {K : Type 0} (kept : AreKept L K) where
     -- the key of a row is the key of each point that fits it
-    pub key_of_point : (k : K) (x : Point) (y : ScaledPoint) → IsPoint x → x ≈ point_of unit y → FitsScaled L narrow K kept k y → IsPointKey unit members x (kept.key k)
+    pub key_of_point : (k : K) (x : Point) (y : ScaledPoint) → IsPoint x → x ≈ point_of unit y → FitsScaled kept k y → IsPointKey unit members x (kept.key k)
     key_of_point k x y p e f =
-        let g = has_group L narrow K kept k y f in
-        let o = own L narrow K kept k in
+        let g = has_group kept k y f in
+        let o = full_of L (kept.set k) in
         let z : ScaledPoint = moved g.0 y in
         let i : IsElement unit members (undo g.0) = (space L).inv_in g.0 g.1 in
-        let avg = kept.average k in
+        let avg = o.average in
         let key = kept.is_key k in
         -- the average of the group of the image by h
         let at : (h : Map) (b : Block) → IsElement unit members h → IsSpecial unit members (image unit h x) b → carried (h ∘ undo g.0) avg ≡ b =
         λ h b m s.
         let there : moved (h ∘ undo g.0) z ≡ moved h y = moved-∘ h (undo g.0) z ∙ ap (moved h) (conjugates.act_back (space L) (on_points L) g.0 y g.1) in
-        special_moved (h ∘ undo g.0) z _ avg b ((space L).mul_in h (undo g.0) m i) g.2 o.closed o.mean
+        special_moved (h ∘ undo g.0) z _ avg b ((space L).mul_in h (undo g.0) m i) g.2 o.closed o.is_mean
         (subst (λ v. IsMean (length members) (site L v) b) (sym there) (special_is (image unit h x) (moved h y) b (IsPoint-image unit some h x p) (image_of L x y h e) s)) in
         let h : Map = key.by ∘ g.0 in
         let m : IsElement unit members h = (space L).mul_in key.by g.0 key.element g.1 in
         let b = mean_exists L (site L (moved h y)) (site_closed L (moved h y)) in
         let s : IsSpecial unit members (image unit h x) b.0 = record { site = site L (moved h y); is_site = site_list L (image unit h x) (moved h y) (IsPoint-image unit some h x p) (image_of L x y h e); mean = b.1 } in
-        let same : carried key.by avg ≡ b.0 = special_moved key.by z _ avg b.0 key.element g.2 o.closed o.mean (subst (λ v. IsMean (length members) (site L v) b.0) (moved-∘ key.by g.0 y) b.1) in
+        let same : carried key.by avg ≡ b.0 = special_moved key.by z _ avg b.0 key.element g.2 o.closed o.is_mean (subst (λ v. IsMean (length members) (site L v) b.0) (moved-∘ key.by g.0 y) b.1) in
         record {
           by = h;
           element = m;
@@ -109,8 +109,9 @@ module _ (L : SpaceGroup) where
       let e : gx ≈ point_of unit z = image_of L x y.0 g y.1 in
       let a = k.special in
       let mean : IsMean (length members) (site L z) a = special_is gx z a (IsPoint-image unit some g x h) e k.is_special in
-      let inside : IsInImage a z = means.fixed_image L (length members) (some_members L) (site L z) (site_closed L z) a mean z (λ s c. ((site_is L z s).0 c).1) in
-      let lies = image_lies L a p z (means.number L (length members) (some_members L) (site L z) (site_closed L z) a mean) k.gives inside in
+      let m : Averaged L (length members) = record { some = some_members L; list = site L z; closed = site_closed L z; average = a; is_mean = mean } in
+      let inside : IsInImage a z = means.fixed_image m z (λ s c. ((site_is L z s).0 c).1) in
+      let lies = image_lies L a p z (means.number m) k.gives inside in
       record {
         by = g;
         element = k.element;

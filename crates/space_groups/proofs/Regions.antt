@@ -10,7 +10,8 @@ use Rattle.lattice_algebra.proofs.Ring.{var, ◌⊕◌, ◌⊖◌, ◌⊗◌, ri
 use Rattle.lattice_algebra.proofs.MatrixRing.{matrix_at, column_at, ◌·ˢ◌, ◌·ˢᶜ◌, ◌+ˢᶜ◌, sym_times, sym_neg, sym_scaled, sym_identity, sym_origin, column_ring, matrix_ring}
 use Rattle.lattice_algebra.proofs.Remainders.{modulo_is, modulo_same, modulo_part, modulo_parts}
 use Rattle.lattice_algebra.proofs.Maps.{operator_path}
-use Rattle.lattice_algebra.proofs.Numbers.{above, abs_add, abs_sub, abs_mul, rounded}
+use Rattle.lattice_algebra.proofs.Numbers.{above, positive_product, abs_add, abs_sub, rounded}
+use Rattle.space_groups.proofs.RowSizes.{row_size}
 use Rattle.lattice_algebra.proofs.Columns.{cancel_matrix}
 use Rattle.space_groups.specs.Space.{IsElement, ScaledPoint, moved}
 use Rattle.space_groups.specs.Averages.{Block, block_times, block_scaled, IsInImage}
@@ -33,6 +34,18 @@ shift_operator unit h k = operator_path _ _ refl (modulo_same unit h (times (pos
 
 pub shift_in : (L : SpaceGroup) (k : Column) → IsElement L.unit L.members (shift_by L.unit k)
 shift_in L k = subst (Contains L.members) (sym (shift_operator L.unit L.some k)) L.closed.has_one
+
+-- ---- whole parts
+
+split_shift : (s m k : Column) (u : ℤ) → m ≡ s +ᶜ times u k → s ≡ m +ᶜ times u (neg_column k)
+unfolding ◌+ᶜ◌ times neg_column
+split_shift s m k u e =
+    column_ring (u ∷ (coordinates s ++ coordinates k)) (column_at 1) (column_at 1 +ˢᶜ sym_times (var 0) (column_at 4) +ˢᶜ sym_times (var 0) (sym_neg (column_at 4))) tt
+    ∙ ap (λ v. v +ᶜ times u (neg_column k)) (sym e)
+
+-- a column is its remainder and a multiple of n
+pub whole_part : (n : ℕ) → 0 < n → (s : Column) → (k : Column) × (s ≡ modulo n s +ᶜ times (pos n) k)
+whole_part n h s = let m = modulo_is n h s in (neg_column m.0, split_shift s (modulo n s) m.0 (pos n) m.1)
 
 -- ---- the moved point
 
@@ -110,10 +123,6 @@ rest_form m t k o u d q =
 
 -- ---- sizes
 
-row_size : (m0 m1 m2 r0 r1 r2 : ℤ) (b0 b1 b2 : ℕ) → unsigned_abs r0 ≤ b0 → unsigned_abs r1 ≤ b1 → unsigned_abs r2 ≤ b2 → unsigned_abs (m0 *ℤ r0 +ℤ m1 *ℤ r1 +ℤ m2 *ℤ r2) ≤ unsigned_abs m0 * b0 + unsigned_abs m1 * b1 + unsigned_abs m2 * b2
-row_size m0 m1 m2 r0 r1 r2 b0 b1 b2 q0 q1 q2 =
-    omega (arith, abs_add (m0 *ℤ r0 +ℤ m1 *ℤ r1) (m2 *ℤ r2), abs_add (m0 *ℤ r0) (m1 *ℤ r1), abs_mul m0 r0 b0 q0, abs_mul m1 r1 b1 q1, abs_mul m2 r2 b2 q2)
-
 -- one coordinate of the moved point: n p = m o + d t, with o up to u d q
 near_row : (unit q n size d : ℕ) (m0 m1 m2 o0 o1 o2 t p : ℤ) → 0 < n → pos n *ℤ p ≡ m0 *ℤ o0 +ℤ m1 *ℤ o1 +ℤ m2 *ℤ o2 +ℤ pos d *ℤ t
     → unsigned_abs o0 ≤ unit * d * q → unsigned_abs o1 ≤ unit * d * q → unsigned_abs o2 ≤ unit * d * q
@@ -127,16 +136,27 @@ near_row unit q n size d m0 m1 m2 o0 o1 o2 t p h e b0 b1 b2 w =
     let l : n * unsigned_abs p ≤ n * (unit * d * size) = omega (arith, abs_add row (pos d *ℤ t)) in
     le_of_mul-le-mul_left l h
 
-pos-product : (a b : ℕ) → pos (a * b) ≡ pos a *ℤ pos b
-pos-product a b = refl
+-- a common denominator of an average over n, and what M z + t can reach
+pub record Box (unit n : ℕ) (a : Block) : Type 0 where
+  pub denominator : ℕ
+  pub some : 0 < denominator
+  pub whole : Matrix
+  pub is_whole : IsWhole denominator whole a
+  pub size : Sizes
+  pub is_reach : IsReach unit denominator n size a
 
-pub move_near : (unit q n : ℕ) (r : Matrix) (size : Sizes) (a : Block) (y : ScaledPoint) → 0 < unit → 0 < q → 0 < n → a.n ≡ pos n → IsWhole q r a → block_times a a ≡ block_scaled a.n a → IsReach unit q n size a → IsInImage a y
-    → (k : Column) × IsInImage a (moved (shift_by unit k) y) × IsNear unit size (moved (shift_by unit k) y)
+pub move_near : (unit n : ℕ) (a : Block) (box : Box unit n a) (y : ScaledPoint) → 0 < unit → 0 < n → a.n ≡ pos n → block_times a a ≡ block_scaled a.n a → IsInImage a y
+    → (k : Column) × IsInImage a (moved (shift_by unit k) y) × IsNear unit box.size (moved (shift_by unit k) y)
 unfolding moved ◌·ᶜ◌ ◌+ᶜ◌ times
-move_near unit q n r size a y hu hq hn number w two reach i =
+move_near unit n a box y hu hn number two i =
+    let q = box.denominator in
+    let r = box.whole in
+    let w = box.is_whole in
+    let size = box.size in
+    let reach = box.is_reach in
     let d = y.d in
     let b = unit * d * q in
-    let cut = parts b (grind (arith, y.some)) y.n in
+    let cut = parts b (positive_product (unit * d) q (positive_product unit d hu y.some) box.some) y.n in
     let k0 = cut.0 in
     let o = cut.1 in
     let k = neg_column (r ·ᶜ k0) in
@@ -183,23 +203,16 @@ box_row unit d r s0 s1 s2 w0 w1 w2 p p0 p1 p2 t k hu hd e b b0 b1 b2 part =
         let T = var 4 in
         ring (u ∷ d ∷ k ∷ row ∷ t ∷ []) ((U ⊗ D) ⊗ K) (((R ⊕ D ⊗ (T ⊕ U ⊗ K)) ⊖ R) ⊖ D ⊗ T) tt
 
-pub split_shift : (s m k : Column) (u : ℤ) → m ≡ s +ᶜ times u k → s ≡ m +ᶜ times u (neg_column k)
-unfolding ◌+ᶜ◌ times neg_column
-split_shift s m k u e =
-    column_ring (u ∷ (coordinates s ++ coordinates k)) (column_at 1) (column_at 1 +ˢᶜ sym_times (var 0) (column_at 4) +ˢᶜ sym_times (var 0) (sym_neg (column_at 4))) tt
-    ∙ ap (λ v. v +ᶜ times u (neg_column k)) (sym e)
-
 pub near_in_box : (unit : ℕ) (size : Sizes) (e : Map) (y : ScaledPoint) → 0 < unit → IsNear unit size y → moved e y ≡ y → IsInBox unit size e
 unfolding moved ◌·ᶜ◌ ◌+ᶜ◌ times
 near_in_box unit size e y hu near fix =
-    let m = modulo_is unit hu e.s in
+    let c = whole_part unit hu e.s in
+    let k = c.0 in
     let t = modulo_parts unit hu e.s in
-    let k = neg_column m.0 in
-    let is : e.s ≡ modulo unit e.s +ᶜ times (pos unit) k = split_shift e.s (modulo unit e.s) m.0 (pos unit) m.1 in
-    let f : e.w ·ᶜ y.n +ᶜ times (pos y.d) (modulo unit e.s +ᶜ times (pos unit) k) ≡ y.n = ap (λ s. e.w ·ᶜ y.n +ᶜ times (pos y.d) s) (sym is) ∙ ap (λ (v : ScaledPoint). v.n) fix in
+    let f : e.w ·ᶜ y.n +ᶜ times (pos y.d) (modulo unit e.s +ᶜ times (pos unit) k) ≡ y.n = ap (λ s. e.w ·ᶜ y.n +ᶜ times (pos y.d) s) (sym c.1) ∙ ap (λ (v : ScaledPoint). v.n) fix in
     record {
       shift = k;
-      is_shift = is;
+      is_shift = c.1;
       x = box_row unit y.d size.x size.x size.y size.z e.w.xx e.w.xy e.w.xz y.n.x y.n.x y.n.y y.n.z (modulo unit e.s).x k.x hu y.some (ap (λ (c : Column). c.x) f) near.x near.x near.y near.z t.x;
       y = box_row unit y.d size.y size.x size.y size.z e.w.yx e.w.yy e.w.yz y.n.y y.n.x y.n.y y.n.z (modulo unit e.s).y k.y hu y.some (ap (λ (c : Column). c.y) f) near.y near.x near.y near.z t.y;
       z = box_row unit y.d size.z size.x size.y size.z e.w.zx e.w.zy e.w.zz y.n.z y.n.x y.n.y y.n.z (modulo unit e.s).z k.z hu y.some (ap (λ (c : Column). c.z) f) near.z near.x near.y near.z t.z;

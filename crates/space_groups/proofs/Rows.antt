@@ -1,34 +1,35 @@
 -- The kept sets of the search are the rows of a table.
-use Rattle.std.proofs.Common.{◌≡◌, ◌++◌, ◌∷◌, [], ℕ, ◌*◌, ◌<◌, ◌↔◌, List, length, ℤ, pos, negsuc, ◌*ℤ◌, ◌<ℤ◌, Contains, ap, ap₂, sym, ◌∙◌, refl, subst, arith, ⊎_elim}
-use Rattle.std.proofs.lemmas.Int.{ints}
+use Rattle.std.proofs.Common.{◌≡◌, ◌++◌, ◌∷◌, [], ℕ, ◌*◌, ◌<◌, ◌↔◌, List, length, ℤ, pos, ◌*ℤ◌, Contains, ap, ap₂, sym, ◌∙◌, refl, subst, arith, ⊎_elim}
 use Rattle.std.proofs.lemmas.List.Elements.{All-contains}
+use Rattle.std.proofs.lemmas.Map.Made.{AllPairs-from_IsDistinct}
 use Rattle.lattice_algebra.specs.Matrix.{Matrix, Column, entries, coordinates, ◌·◌, ◌·ᶜ◌, ◌+ᶜ◌, neg_column, times, scaled, origin, identity}
 use Rattle.lattice_algebra.specs.Operator.{Operator, HasEntriesWithin}
 use Rattle.lattice_algebra.specs.Map.{Map, ◌∘◌, identity_map, undo, operator_of}
 use Rattle.lattice_algebra.proofs.Ring.{var, ◌⊗◌}
 use Rattle.lattice_algebra.proofs.MatrixRing.{matrix_at, column_at, ◌·ˢ◌, ◌·ˢᶜ◌, ◌+ˢᶜ◌, sym_times, sym_neg, sym_scaled, sym_origin, sym_identity, column_ring}
+use Rattle.lattice_algebra.proofs.Maps.{map_eq-is}
 use Rattle.lattice_algebra.proofs.Remainders.{modulo_is}
 use Rattle.lattice_algebra.proofs.Numbers.{above, positive_product}
+use Rattle.lattice_algebra.proofs.Points.{positive_times}
 use Rattle.lattice_algebra.proofs.Columns.{cancel_column, swap_times}
-use Rattle.finite_groups.specs.Words.{IsClosedList}
 use Rattle.finite_groups.proofs.Members as lists
 use Rattle.finite_groups.proofs.Conjugates as conjugates
 use Rattle.finite_groups.proofs.Table as table
 use Rattle.space_groups.specs.Space.{IsElement, ScaledPoint, moved, point_of}
-use Rattle.space_groups.specs.Averages.{Block, block_times, block_scaled, IsMean, IsInImage}
-use Rattle.space_groups.specs.Regions.{Sizes, IsWhole, IsReach, IsInBox, shift_by}
+use Rattle.space_groups.specs.Averages.{Block, block_times, block_scaled, IsInImage}
+use Rattle.space_groups.specs.Regions.{IsInBox, shift_by}
 use Rattle.space_groups.specs.Keys.{carried, Key, key_of, IsKey}
 use Rattle.space_groups.specs.Rows.{Lies, row_point}
-use Rattle.space_groups.specs.Search.{FixAll}
+use Rattle.space_groups.specs.Search.{FixAll, IsFull}
 use Rattle.space_groups.proofs.ScaledPoints.{moved-∘, moved-identity}
 use Rattle.space_groups.proofs.Elements.{SpaceGroup, space, on_points}
 use Rattle.space_groups.proofs.Means as means
-use Rattle.space_groups.proofs.Means.{Keeps}
-use Rattle.space_groups.proofs.Carried.{carried-number, image_carried, image_carried_back, carried_idempotent, IsOwn}
-use Rattle.space_groups.proofs.Regions.{shift_in, move_near, near_in_box}
+use Rattle.space_groups.proofs.Means.{Averaged}
+use Rattle.space_groups.proofs.Carried.{carried-number, image_carried, image_carried_back, carried_idempotent}
+use Rattle.space_groups.proofs.Regions.{Box, shift_in, move_near, near_in_box}
 use Rattle.space_groups.proofs.Generic.{mean_within, generic}
 use Rattle.space_groups.proofs.Keys.{same_key_same_image}
-use Rattle.space_groups.proofs.Sites.{site, sites, site_is, full, full_own}
+use Rattle.space_groups.proofs.Sites.{site, sites, site_is, full, full_of, full_own}
 use Rattle.space_groups.proofs.Orbits.{orbit, site_times_orbit}
 use Rattle.space_groups.proofs.Blocks.{matrix_part, translation_part}
 
@@ -142,10 +143,6 @@ regrouped p u d n =
     let N = var 2 in
     column_ring (u ∷ d ∷ n ∷ coordinates p) (sym_times (U ⊗ D) (sym_times U (sym_times N (column_at 3)))) (sym_times (U ⊗ N ⊗ (U ⊗ D)) (column_at 3)) tt
 
-positive_three : (a b : ℕ) (d : ℤ) → 0 < a → 0 < b → pos 0 <ℤ d → pos 0 <ℤ (pos a *ℤ pos b *ℤ d)
-positive_three a b (pos k) p q h = above (a * b * k) (positive_product (a * b) k (positive_product a b p q) (omega (arith, ints)))
-positive_three a b (negsuc k) p q h = absurd (omega (arith, ints))
-
 module _ (L : SpaceGroup) where
   open L use {unit, some, members, closed}
 
@@ -154,27 +151,29 @@ module _ (L : SpaceGroup) where
 
   -- what the search keeps: sets closed under products, each with its average, its key, and the box in which it was grown
   pub record AreKept (K : Type 0) : Type 0 where
-    pub set : K → List Map
-    pub is_sub : (k : K) → IsClosedList (space L) (set k)
-    pub average : K → Block
-    pub is_mean : (k : K) → IsMean (length members) (set k) (average k)
+    pub narrow : AreNarrow members
+    pub set : K → Averaged L (length members)
     pub key : K → Key
-    pub is_key : (k : K) → IsKey unit members (length members) (average k) (key k)
+    pub is_key : (k : K) → IsKey unit members (length members) (set k).average (key k)
     pub mult : K → ℕ
-    pub is_mult : (k : K) (fs : List Map) → IsOwn L (length members) fs (average k) → length fs * mult k ≡ length members
-    -- the box: a common denominator of the average, and what it reaches
-    pub denominator : K → ℕ
-    pub positive : (k : K) → 0 < denominator k
-    pub whole : K → Matrix
-    pub is_whole : (k : K) → IsWhole (denominator k) (whole k) (average k)
-    pub size : K → Sizes
-    pub is_reach : (k : K) → IsReach unit (denominator k) (length members) (size k) (average k)
+    pub is_mult : (k : K) (list : List Map) → IsFull unit members (set k).average list → length list * mult k ≡ length members
+    pub box : (k : K) → Box unit (length members) (set k).average
     -- the set of the identity alone is kept, and no two keys are the same
-    pub trivial : (k : K) × (set k ≡ identity_map ∷ [])
+    pub trivial : (k : K) × ((set k).list ≡ identity_map ∷ [])
     pub apart : (j k : K) → key j ≡ key k → j ≡ k
     -- the set that a kept set and an element in its box generate has its key among the kept ones, where some point is fixed by all
-    pub grown : (k : K) (e : Map) → IsElement unit members e → IsInBox unit (size k) e → (y : ScaledPoint) → FixAll (set k) y → moved e y ≡ y
-        → (list : List Map) × (a : Block) × (t : K) × IsClosedList (space L) list × ((z : ScaledPoint) → FixAll list z ↔ (FixAll (set k) z × (moved e z ≡ z))) × IsMean (length members) list a × IsKey unit members (length members) a (key t)
+    pub grown : (k : K) (e : Map) → IsElement unit members e → IsInBox unit (box k).size e → (y : ScaledPoint) → FixAll (set k).list y → moved e y ≡ y
+        → (t : K) × (m : Averaged L (length members)) × ((z : ScaledPoint) → FixAll m.list z ↔ (FixAll (set k).list z × (moved e z ≡ z))) × IsKey unit members (length members) m.average (key t)
+
+  -- the full list of an average is full
+  full_list : {n : ℕ} (m : Averaged L n) → IsFull unit members m.average (full L m)
+  full_list m = record {
+    exactly = λ e.
+        let k = full_own L m e in
+        let f = means.full_exactly m e in
+        ((λ c. ((k.0 c).0, f.0 (k.0 c).1)), (λ p. k.1 (p.0, f.1 p.1)));
+    once = AllPairs-from_IsDistinct map_eq-is (full L m) (full_of L m).closed.distinct;
+  }
 
   -- a point of a row, moved by whole cells, lies in the image of the average of which the row has the key
   pub lies_moved : (a : Block) (p : Key) (y : ScaledPoint) → a.n ≡ pos (length members) → block_times a a ≡ block_scaled a.n a → key_of unit (length members) a ≡ p → Lies unit (length members) p (point_of unit y)
@@ -196,7 +195,7 @@ module _ (L : SpaceGroup) where
       let mm : a.m · a.m ≡ scaled (pos n) a.m = matrix_part a two ∙ ap (λ v. scaled v a.m) number in
       let q = row_image a.m _ z.n a.t u (pos y.d) (pos n) z.d f mm (translation_part a two) in
       let moved_n : Column = identity ·ᶜ y.n +ᶜ times (pos y.d) (times u k) in
-      (k, cancel_column w _ _ (positive_three unit n z.d some some_members h.is_point) (q ∙ ap (λ v. times w (times v moved_n)) (sym number)))
+      (k, cancel_column w _ _ (positive_times (unit * n) z.d (positive_product unit n some some_members) h.is_point) (q ∙ ap (λ v. times w (times v moved_n)) (sym number)))
 
   -- a point of the image lies on the row
   pub image_lies : (a : Block) (p : Key) (y : ScaledPoint) → a.n ≡ pos (length members) → key_of unit (length members) a ≡ p → IsInImage a y → Lies unit (length members) p (point_of unit y)
@@ -214,146 +213,110 @@ module _ (L : SpaceGroup) where
             ∙ row_here a.m y.n a.t j.0 (pos unit) (pos y.d) (pos n) ∙ ap (λ v. times (pos unit *ℤ pos y.d) (times (pos unit) v)) (i ∙ ap (λ v. times v y.n) number) ∙ regrouped y.n (pos unit) (pos y.d) (pos n));
       }
 
-  module _ (narrow : AreNarrow members) (K : Type 0) (kept : AreKept K) where
-    open kept use {set, is_sub, average, is_mean, key, is_key, mult, is_mult, denominator, positive, whole, is_whole, size, is_reach, trivial, apart, grown}
+module _ {L : SpaceGroup} {K : Type 0} (kept : AreKept L K) where
+  open L use {unit, some, members, closed}
+  open kept use {narrow, set, key, is_key, mult, is_mult, box, trivial, apart, grown}
 
-    number : (k : K) → (average k).n ≡ pos (length members)
-    number k = means.number L (length members) some_members (set k) (is_sub k) (average k) (is_mean k)
+  -- the elements that fix all of the image
+  abbrev pub all_of : K → List Map
+  all_of k = full L (set k)
 
-    two : (k : K) → block_times (average k) (average k) ≡ block_scaled (average k).n (average k)
-    two k = means.idempotent_itself L (length members) some_members (set k) (is_sub k) (average k) (is_mean k)
+  abbrev pub InK : K → ScaledPoint → Type 0
+  InK k y = IsInImage (set k).average y
 
-    -- the elements that fix all of the image
-    abbrev pub all_of : K → List Map
-    all_of k = full L (length members) some_members (average k)
+  fixed_by : (k : K) (y : ScaledPoint) → InK k y ↔ FixAll (set k).list y
+  fixed_by k y = ((λ i e c. means.image_fixed (set k) y i e c), (λ h. means.fixed_image (set k) y h))
 
-    pub own : (k : K) → IsOwn L (length members) (all_of k) (average k)
-    own k = full_own L (length members) some_members (set k) (average k) (is_sub k) (is_mean k)
+  narrow_element : (e : Map) → IsElement unit members e → HasEntriesWithin 2 e.w
+  unfolding operator_of
+  narrow_element e m = narrow (operator_of unit e) m
 
-    abbrev pub InK : K → ScaledPoint → Type 0
-    InK k y = IsInImage (average k) y
+  pub rows_kept : table.AreKept (space L) (on_points L) K InK all_of
+  rows_kept = record {
+    distinct = λ k. (full_of L (set k)).closed.distinct;
+    fixes = λ k e c. let r = (full_own L (set k) e).0 c in (r.0, λ y i. means.image_fixed (full_of L (set k)) y i e c);
+    all = λ k e m h. (full_own L (set k) e).1 (m, (means.full_exactly (set k) e).1 h);
+    image = λ k y h. means.fixed_image (full_of L (set k)) y h;
+    generic = λ k.
+        let m = set k in
+        let within = mean_within (length members) m.list m.average (means.some_members m) m.is_mean (λ e c. narrow_element e (All-contains (IsElement unit members) m.list e m.closed.valid c)) in
+        let g = generic (length members) m.some m.average (means.number m) (means.idempotent_itself m) within in
+        (g.0, g.1, λ e i f. (full_own L m e).1 (i, g.2 e (narrow_element e i) f));
+    apart = λ j k g m h. apart j k ((same_key_same_image L (full_of L (set j)) (full_of L (set k)) (key j) (key k) (full_own L (set j)) (full_own L (set k)) (is_key j) (is_key k)).1 (g, m, h));
+  }
 
-    fixed_by : (k : K) (y : ScaledPoint) → InK k y ↔ FixAll (set k) y
-    fixed_by k y = (
-      (λ i e c. means.image_fixed L (length members) some_members (set k) (is_sub k) (average k) (is_mean k) y i e c),
-      (λ h. means.fixed_image L (length members) some_members (set k) (is_sub k) (average k) (is_mean k) y h),
-    )
-
-    narrow_element : (e : Map) → IsElement unit members e → HasEntriesWithin 2 e.w
-    unfolding operator_of
-    narrow_element e m = narrow (operator_of unit e) m
-
-    pub rows_kept : table.AreKept (space L) (on_points L) K InK all_of
-    rows_kept = record {
-      distinct = λ k. (own k).closed.distinct;
-      fixes = λ k e c. let r = ((own k).exactly e).0 c in (r.0, λ y i. means.image_fixed L (length members) some_members (all_of k) (own k).closed (average k) (own k).mean y i e c);
-      all = λ k e m h. ((own k).exactly e).1 (m, (means.full_exactly L (length members) some_members (set k) (is_sub k) (average k) (is_mean k) e).1 h);
-      image = λ k y h. means.fixed_image L (length members) some_members (all_of k) (own k).closed (average k) (own k).mean y h;
-      generic = λ k.
-          let g = generic (length members) some_members (average k) (number k) (two k)
-          (mean_within (length members) (set k) (average k) (means.some_members L (length members) some_members (set k) (is_sub k) (average k) (is_mean k)) (is_mean k) (λ e c. narrow_element e (All-contains (IsElement unit members) (set k) e (is_sub k).valid c))) in
-          (g.0, g.1, λ e m f. ((own k).exactly e).1 (m, g.2 e (narrow_element e m) f));
-      apart = λ j k g m h. apart j k ((same_key_same_image L (length members) some_members (average j) (average k) (key j) (key k) (all_of j) (all_of k) (own j) (own k) (is_key j) (is_key k)).1 (g, m, h));
-    }
-
-    pub rows_grow : table.Grows (space L) (on_points L) K InK all_of
-    rows_grow k y i =
-        let near = move_near unit (denominator k) (length members) (whole k) (size k) (average k) y some (positive k) some_members (number k) (is_whole k) (two k) (is_reach k) i in
-        let m : Map = shift_by unit near.0 in (
-          m,
-          shift_in L near.0,
-          near.1,
-          λ e inside fix.
-              let g = grown k e inside (near_in_box unit (size k) e (moved m y) some near.2 fix) (moved m y) ((fixed_by k (moved m y)).0 near.1) fix in
-              let list = g.0 in
-              let a = g.1 in
-              let t = g.2 in
-              let o = full_own L (length members) some_members list a g.3 g.5 in
-              let h = (same_key_same_image L (length members) some_members a (average t) (key t) (key t) (full L (length members) some_members a) (all_of t) o (own t) g.6 (is_key t)).0 refl in (
-                t,
-                h.0,
-                h.1,
-                λ z. (
-                  (λ p. (h.2 z).0 (means.fixed_image L (length members) some_members list g.3 a g.5 z ((g.4 z).1 ((fixed_by k z).0 p.0, p.1)))),
-                  (λ q. let r = (g.4 z).0 (λ e c. means.image_fixed L (length members) some_members list g.3 a g.5 z ((h.2 z).1 q) e c) in ((fixed_by k z).1 r.0, r.1)),
-                ),
+  pub rows_grow : table.Grows (space L) (on_points L) K InK all_of
+  rows_grow k y i =
+      let near = move_near unit (length members) (set k).average (box k) y some (set k).some (means.number (set k)) (means.idempotent_itself (set k)) i in
+      let s : Map = shift_by unit near.0 in (
+        s,
+        shift_in L near.0,
+        near.1,
+        λ e inside fix.
+            let g = grown k e inside (near_in_box unit (box k).size e (moved s y) some near.2 fix) (moved s y) ((fixed_by k (moved s y)).0 near.1) fix in
+            let t = g.0 in
+            let m = g.1 in
+            let h = (same_key_same_image L (full_of L m) (full_of L (set t)) (key t) (key t) (full_own L m) (full_own L (set t)) g.3 (is_key t)).0 refl in (
+              t,
+              h.0,
+              h.1,
+              λ z. (
+                (λ p. (h.2 z).0 (means.fixed_image m z ((g.2 z).1 ((fixed_by k z).0 p.0, p.1)))),
+                (λ q. let r = (g.2 z).0 (λ e c. means.image_fixed m z ((h.2 z).1 q) e c) in ((fixed_by k z).1 r.0, r.1)),
               ),
-        )
+            ),
+      )
 
-    -- ---- rows and images
+  -- ---- rows and images
 
-    lies_from : (k : K) (y : ScaledPoint) → Lies unit (length members) (key k) (point_of unit y) → (h : Map) × IsElement unit members h × InK k (moved h y)
-    lies_from k y l =
-        let f = is_key k in
-        let g : Map = f.by in
-        let a = carried g (average k) in
-        let s = lies_moved a (key k) y (carried-number g (average k) ∙ number k) (carried_idempotent L g (average k) f.element (two k)) f.gives l in
-        let m : Map = shift_by unit s.0 in
-        let i : IsElement unit members (undo g) = (space L).inv_in g f.element in
-        let there : moved g (moved (undo g) (moved m y)) ≡ moved m y = conjugates.act_there (space L) (on_points L) g (moved m y) f.element in (
-          undo g ∘ m,
-          (space L).mul_in (undo g) m i (shift_in L s.0),
-          subst (InK k) (sym (moved-∘ (undo g) m y)) (image_carried_back L g (average k) (moved (undo g) (moved m y)) f.element (subst (IsInImage a) (sym there) s.1)),
-        )
+  lies_from : (k : K) (y : ScaledPoint) → Lies unit (length members) (key k) (point_of unit y) → (h : Map) × IsElement unit members h × InK k (moved h y)
+  lies_from k y l =
+      let f = is_key k in
+      let g : Map = f.by in
+      let a = carried g (set k).average in
+      let s = lies_moved L a (key k) y (carried-number g (set k).average ∙ means.number (set k)) (carried_idempotent L g (set k).average f.element (means.idempotent_itself (set k))) f.gives l in
+      let m : Map = shift_by unit s.0 in
+      let i : IsElement unit members (undo g) = (space L).inv_in g f.element in
+      let there : moved g (moved (undo g) (moved m y)) ≡ moved m y = conjugates.act_there (space L) (on_points L) g (moved m y) f.element in (
+        undo g ∘ m,
+        (space L).mul_in (undo g) m i (shift_in L s.0),
+        subst (InK k) (sym (moved-∘ (undo g) m y)) (image_carried_back L g (set k).average (moved (undo g) (moved m y)) f.element (subst (IsInImage a) (sym there) s.1)),
+      )
 
-    lies_to : (k : K) (y : ScaledPoint) → InK k y → (h : Map) × IsElement unit members h × Lies unit (length members) (key k) (point_of unit (moved h y))
-    lies_to k y i =
-        let f = is_key k in
-        let g : Map = f.by in
-        (g, f.element, image_lies (carried g (average k)) (key k) (moved g y) (carried-number g (average k) ∙ number k) f.gives (image_carried L g (average k) y f.element i))
+  lies_to : (k : K) (y : ScaledPoint) → InK k y → (h : Map) × IsElement unit members h × Lies unit (length members) (key k) (point_of unit (moved h y))
+  lies_to k y i =
+      let f = is_key k in
+      let g : Map = f.by in
+      (g, f.element, image_lies L (carried g (set k).average) (key k) (moved g y) (carried-number g (set k).average ∙ means.number (set k)) f.gives (image_carried L g (set k).average y f.element i))
 
-    some_site : (y : ScaledPoint) → 0 < length (site L y)
-    some_site y = omega (arith, ((site_is L y identity_map).1 ((space L).one_in, moved-identity y)).1)
+  some_site : (y : ScaledPoint) → 0 < length (site L y)
+  some_site y = omega (arith, ((site_is L y identity_map).1 ((space L).one_in, moved-identity y)).1)
 
-    -- the row of k: some image of y lies on it, and the orbit of y has as many points as it says
-    abbrev pub FitsScaled : K → ScaledPoint → Type 0
-    FitsScaled k y = ((g : Map) × IsElement unit members g × Lies unit (length members) (key k) (point_of unit (moved g y))) × (length (orbit L y) ≡ mult k)
+  -- the row of k: some image of y lies on it, and the orbit of y has as many points as it says
+  abbrev pub FitsScaled : K → ScaledPoint → Type 0
+  FitsScaled k y = ((g : Map) × IsElement unit members g × Lies unit (length members) (key k) (point_of unit (moved g y))) × (length (orbit L y) ≡ mult k)
 
-    all_points : (y : ScaledPoint) → InK trivial.0 y
-    all_points y = (fixed_by trivial.0 y).1 (λ e c. ⊎_elim (λ q. subst (λ v. moved v y ≡ y) q (moved-identity y)) (λ d. lists.not_in_nil e d) (lists.Contains-cases e identity_map [] (subst (λ v. Contains v e) trivial.1 c)))
+  all_points : (y : ScaledPoint) → InK trivial.0 y
+  all_points y = (fixed_by trivial.0 y).1 (λ e c. ⊎_elim (λ q. subst (λ v. moved v y ≡ y) q (moved-identity y)) (λ d. lists.not_in_nil e d) (lists.Contains-cases e identity_map [] (subst (λ v. Contains v e) trivial.1 c)))
 
-    pub every_scaled_fits : (y : ScaledPoint) → (k : K) × FitsScaled k y
-    every_scaled_fits y =
-        table.every_point_fits (space L) (on_points L) (sites L) K InK all_of rows_kept (length members) some_members mult (λ z. length (orbit L z)) (λ k z. Lies unit (length members) (key k) (point_of unit z))
-        some_site (λ k. is_mult k (all_of k) (own k)) (site_times_orbit L) lies_from lies_to rows_grow trivial.0 all_points y
+  pub every_scaled_fits : (y : ScaledPoint) → (k : K) × FitsScaled k y
+  every_scaled_fits y =
+      table.every_point_fits (space L) (on_points L) (sites L) K InK all_of rows_kept (length members) (some_members L) mult (λ z. length (orbit L z)) (λ k z. Lies unit (length members) (key k) (point_of unit z))
+      some_site (λ k. is_mult k (all_of k) (full_list L (set k))) (site_times_orbit L) lies_from lies_to rows_grow trivial.0 all_points y
 
-    pub one_row : (j k : K) (y : ScaledPoint) → FitsScaled j y → FitsScaled k y → j ≡ k
-    one_row = table.fits_one (space L) (on_points L) (sites L) K InK all_of rows_kept (length members) some_members mult (λ z. length (orbit L z)) (λ k z. Lies unit (length members) (key k) (point_of unit z))
-        some_site (λ k. is_mult k (all_of k) (own k)) (site_times_orbit L) lies_from lies_to
+  pub one_row : (j k : K) (y : ScaledPoint) → FitsScaled j y → FitsScaled k y → j ≡ k
+  one_row = table.fits_one (space L) (on_points L) (sites L) K InK all_of rows_kept (length members) (some_members L) mult (λ z. length (orbit L z)) (λ k z. Lies unit (length members) (key k) (point_of unit z))
+      some_site (λ k. is_mult k (all_of k) (full_list L (set k))) (site_times_orbit L) lies_from lies_to
 
-    pub every_row_fits : (k : K) → (y : ScaledPoint) × FitsScaled k y
-    every_row_fits = table.every_row_fits (space L) (on_points L) (sites L) K InK all_of rows_kept (length members) some_members mult (λ z. length (orbit L z)) (λ k z. Lies unit (length members) (key k) (point_of unit z))
-        some_site (λ k. is_mult k (all_of k) (own k)) (site_times_orbit L) lies_from lies_to
+  pub every_row_fits : (k : K) → (y : ScaledPoint) × FitsScaled k y
+  every_row_fits = table.every_row_fits (space L) (on_points L) (sites L) K InK all_of rows_kept (length members) (some_members L) mult (λ z. length (orbit L z)) (λ k z. Lies unit (length members) (key k) (point_of unit z))
+      some_site (λ k. is_mult k (all_of k) (full_list L (set k))) (site_times_orbit L) lies_from lies_to
 
-    pub same_row : (k : K) (x y : ScaledPoint) → FitsScaled k x → FitsScaled k y ↔ conjugates.Conjugate (space L) (on_points L) x y
-    same_row = table.same_row (space L) (on_points L) (sites L) K InK all_of rows_kept (length members) some_members mult (λ z. length (orbit L z)) (λ k z. Lies unit (length members) (key k) (point_of unit z))
-        some_site (λ k. is_mult k (all_of k) (own k)) (site_times_orbit L) lies_from lies_to
+  pub same_row : (k : K) (x y : ScaledPoint) → FitsScaled k x → FitsScaled k y ↔ conjugates.Conjugate (space L) (on_points L) x y
+  same_row = table.same_row (space L) (on_points L) (sites L) K InK all_of rows_kept (length members) (some_members L) mult (λ z. length (orbit L z)) (λ k z. Lies unit (length members) (key k) (point_of unit z))
+      some_site (λ k. is_mult k (all_of k) (full_list L (set k))) (site_times_orbit L) lies_from lies_to
 
-    -- some image of a point that fits a row is fixed by exactly what fixes the image of its average
-    pub has_group : (k : K) (y : ScaledPoint) → FitsScaled k y → (g : Map) × IsElement unit members g × ((e : Map) → Contains (site L (moved g y)) e ↔ Contains (all_of k) e)
-    has_group = table.group_from_fits (space L) (on_points L) (sites L) K InK all_of rows_kept (length members) some_members mult (λ z. length (orbit L z)) (λ k z. Lies unit (length members) (key k) (point_of unit z))
-        some_site (λ k. is_mult k (all_of k) (own k)) (site_times_orbit L) lies_from lies_to
-
--- the kept sets under other names, as after the rows are sorted
-pub renamed : (L : SpaceGroup) (J K : Type 0) (kept : AreKept L K) (f : J → K) (g : K → J) → ((k : K) → kept.key (f (g k)) ≡ kept.key k) → ((i j : J) → kept.key (f i) ≡ kept.key (f j) → i ≡ j) → AreKept L J
-renamed L J K kept f g back apart = record {
-  set = λ j. kept.set (f j);
-  is_sub = λ j. kept.is_sub (f j);
-  average = λ j. kept.average (f j);
-  is_mean = λ j. kept.is_mean (f j);
-  key = λ j. kept.key (f j);
-  is_key = λ j. kept.is_key (f j);
-  mult = λ j. kept.mult (f j);
-  is_mult = λ j. kept.is_mult (f j);
-  denominator = λ j. kept.denominator (f j);
-  positive = λ j. kept.positive (f j);
-  whole = λ j. kept.whole (f j);
-  is_whole = λ j. kept.is_whole (f j);
-  size = λ j. kept.size (f j);
-  is_reach = λ j. kept.is_reach (f j);
-  trivial = let k = kept.trivial.0 in (g k, ap kept.set (kept.apart (f (g k)) k (back k)) ∙ kept.trivial.1);
-  apart = apart;
-  grown = λ j e m b y h q.
-      let r = kept.grown (f j) e m b y h q in
-      (r.0, r.1, g r.2, r.3, r.4, r.5, subst (IsKey L.unit L.members (length L.members) r.1) (sym (back r.2)) r.6);
-}
+  -- some image of a point that fits a row is fixed by exactly what fixes the image of its average
+  pub has_group : (k : K) (y : ScaledPoint) → FitsScaled k y → (g : Map) × IsElement unit members g × ((e : Map) → Contains (site L (moved g y)) e ↔ Contains (all_of k) e)
+  has_group = table.group_from_fits (space L) (on_points L) (sites L) K InK all_of rows_kept (length members) (some_members L) mult (λ z. length (orbit L z)) (λ k z. Lies unit (length members) (key k) (point_of unit z))
+      some_site (λ k. is_mult k (all_of k) (full_list L (set k))) (site_times_orbit L) lies_from lies_to

@@ -1,20 +1,19 @@
 -- A finished search gives the table, and the row list.
-use Rattle.std.proofs.Common.{◌≡◌, ℕ, ◌<◌, List, length, get_or, Contains, ap, sym, ◌∙◌, refl, subst, ⊎_elim}
+use Rattle.std.proofs.Common.{◌≡◌, List, length, get_or, Contains, ap, sym, ◌∙◌, refl, subst, ⊎_elim}
 use Rattle.std.proofs.lemmas.List.{get_or_default}
 use Rattle.std.proofs.lemmas.List.Elements.{All-contains, Contains-get_or}
-use Rattle.std.proofs.lemmas.Map.Made.{AllPairs-from_IsDistinct, IsDistinct-from_AllPairs}
+use Rattle.std.proofs.lemmas.Map.Made.{IsDistinct-from_AllPairs}
 use Rattle.std.proofs.lemmas.Bool.{cases_order}
 use Rattle.lattice_algebra.specs.Map.{Map}
 use Rattle.lattice_algebra.proofs.Maps.{map_eq-is}
 use Rattle.finite_groups.specs.Words.{IsClosedList}
 use Rattle.finite_groups.proofs.Table.{Place, same_place}
-use Rattle.space_groups.specs.Averages.{Block}
+use Rattle.space_groups.specs.Averages.{Block, IsMean}
 use Rattle.space_groups.specs.Keys.{IsKey}
 use Rattle.space_groups.specs.Rows.{Row, IsRowBefore, IsAt, IsTable, IsRowList}
-use Rattle.space_groups.specs.Search.{IsSub, IsFull, Kept, IsKept, IsDone, row_of, IsSearch}
+use Rattle.space_groups.specs.Search.{IsSub, Kept, IsKept, IsDone, row_of, IsSearch}
 use Rattle.space_groups.proofs.Elements.{SpaceGroup, space}
-use Rattle.space_groups.proofs.Means as means
-use Rattle.space_groups.proofs.Carried.{IsOwn}
+use Rattle.space_groups.proofs.Means.{Averaged}
 use Rattle.space_groups.proofs.Ordered.{row_not_itself}
 use Rattle.space_groups.proofs.Rows.{AreNarrow, AreKept, some_members}
 use Rattle.space_groups.proofs.Headline.{table_from_kept, row_list_from_kept}
@@ -24,16 +23,6 @@ module _ (L : SpaceGroup) where
 
   pub closed_sub : (list : List Map) → IsSub unit members list → IsClosedList (space L) list
   closed_sub list s = record { distinct = IsDistinct-from_AllPairs map_eq-is list s.once; valid = s.elements; has_one = s.identity; closed = s.products }
-
-  -- what is the average's own list is the list of all that fixes its image
-  own_full : (n : ℕ) (n_some : 0 < n) (a : Block) (fs : List Map) → IsOwn L n fs a → IsFull unit members a fs
-  own_full n n_some a fs o = record {
-    exactly = λ e.
-        let k = o.exactly e in
-        let f = means.full_exactly L n n_some fs o.closed a o.mean e in
-        ((λ c. ((k.0 c).0, f.0 (k.0 c).1)), (λ p. k.1 (p.0, f.1 p.1)));
-    once = AllPairs-from_IsDistinct map_eq-is fs o.closed.distinct;
-  }
 
   module _ (narrow : AreNarrow members) (kept : List Kept) (rows : List Row) (search : IsSearch unit members kept rows) where
     -- a place of the rows has the kept set of its row
@@ -72,22 +61,18 @@ module _ (L : SpaceGroup) where
         let d : Row = row_of k in
         one_kept r.0 k r.1 c (ap (λ (v : Row). v.key) (sym (r.2 d) ∙ (to k c).1 d))
 
+    abbrev averaged : (list : List Map) (a : Block) → IsSub unit members list → IsMean (length members) list a → Averaged L (length members)
+    averaged list a s m = record { some = some_members L; list = list; closed = closed_sub list s; average = a; is_mean = m }
+
     found : AreKept L (Place (length rows))
     found = record {
-      set = λ j. (from j).0.set;
-      is_sub = λ j. closed_sub (from j).0.set (is_kept j).sub;
-      average = λ j. (from j).0.average;
-      is_mean = λ j. (is_kept j).mean;
+      narrow = narrow;
+      set = λ j. let k = (from j).0 in averaged k.set k.average (is_kept j).sub (is_kept j).mean;
       key = λ j. (from j).0.key;
       is_key = λ j. (is_kept j).key;
       mult = λ j. (from j).0.mult;
-      is_mult = λ j fs o. (is_kept j).mult fs (own_full (length members) (some_members L) (from j).0.average fs o);
-      denominator = λ j. (from j).0.denominator;
-      positive = λ j. (is_kept j).some;
-      whole = λ j. (from j).0.whole;
-      is_whole = λ j. (is_kept j).whole;
-      size = λ j. (from j).0.size;
-      is_reach = λ j. (is_kept j).reach;
+      is_mult = λ j. (is_kept j).mult;
+      box = λ j. let k = (from j).0 in let h = is_kept j in record { denominator = k.denominator; some = h.some; whole = k.whole; is_whole = h.whole; size = k.size; is_reach = h.reach };
       trivial = let t = search.trivial in ((to t.0 t.1).0, ap (λ (v : Kept). v.set) (from_to t.0 t.1) ∙ t.2);
       apart = λ i j e.
           let k = one_kept (from i).0 (from j).0 (from i).1 (from j).1 e in
@@ -95,7 +80,7 @@ module _ (L : SpaceGroup) where
       grown = λ j e m b y h f.
           let r = All-contains (IsDone unit members kept) kept (from j).0 search.done (from j).1 e m b y h f in
           let g = r.2 in
-          (g.list, g.average, (to r.0 r.1).0, closed_sub g.list g.sub, g.fixes, g.mean, subst (λ v. IsKey unit members (length members) g.average v) (ap (λ (v : Kept). v.key) (sym (from_to r.0 r.1))) g.key);
+          ((to r.0 r.1).0, averaged g.list g.average g.sub g.mean, g.fixes, subst (λ v. IsKey unit members (length members) g.average v) (ap (λ (v : Kept). v.key) (sym (from_to r.0 r.1))) g.key);
     }
 
     prints : (j : Place (length rows)) → IsAt rows j.at (record { mult = found.mult j; key = found.key j })
@@ -104,7 +89,7 @@ module _ (L : SpaceGroup) where
 
     -- the theorem
     pub search_table : IsTable unit members rows
-    search_table = table_from_kept L narrow rows found prints search.ordered
+    search_table = table_from_kept L rows found prints search.ordered
 
     pub search_row_list : IsRowList unit members rows
-    search_row_list = row_list_from_kept L narrow rows found prints search.ordered
+    search_row_list = row_list_from_kept L rows found prints search.ordered

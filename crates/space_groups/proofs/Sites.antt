@@ -21,12 +21,12 @@ use Rattle.finite_groups.specs.Words.{IsClosedList}
 use Rattle.finite_groups.proofs.Members as lists
 use Rattle.finite_groups.proofs.Table as table
 use Rattle.space_groups.specs.Space.{IsElement, ScaledPoint, moved}
-use Rattle.space_groups.specs.Averages.{Block, block_of, block_times, block_scaled, IsMean, IsInImage}
+use Rattle.space_groups.specs.Averages.{Block, block_of, block_times, block_scaled, IsInImage}
 use Rattle.space_groups.proofs.ScaledPoints.{scaled_path}
 use Rattle.space_groups.proofs.Blocks.{block_path, block_of-∘, block_times_assoc, identity_times, number_times}
 use Rattle.space_groups.proofs.Elements.{SpaceGroup, space, on_points}
 use Rattle.space_groups.proofs.Means as means
-use Rattle.space_groups.proofs.Means.{Keeps, kept_fixed}
+use Rattle.space_groups.proofs.Means.{Averaged, Keeps, kept_fixed}
 use Rattle.space_groups.proofs.Carried.{IsOwn}
 
 -- ---- exact division
@@ -155,44 +155,53 @@ module _ (L : SpaceGroup) where
   sites = record { site = site; distinct = site_distinct; exactly = site_is }
 
   -- ---- the elements that leave an average as it is
-  module _ (n : ℕ) (n_some : 0 < n) where
+
+  module _ {n : ℕ} (m : Averaged L n) where
     -- the translation of the average, as a point
-    abbrev pub base : Block → ScaledPoint
-    base a = record { n = a.t; d = n; some = n_some }
+    abbrev base : ScaledPoint
+    base = record { n = m.average.t; d = n; some = m.some }
 
-    pub full : Block → List Map
-    full a = filter (keeps a) (site (base a))
+    pub full : List Map
+    full = filter (keeps m.average) (site base)
 
-    pub full_is : (a : Block) → a.n ≡ pos n → block_times a a ≡ block_scaled a.n a → (e : Map) → Contains (full a) e ↔ (IsElement unit members e × Keeps a e)
+    pub full_is : (e : Map) → Contains full e ↔ (IsElement unit members e × Keeps m.average e)
     unfolding full
-    full_is a number two e = (
-      (λ c. let r = lists.Contains-from_filter (keeps a) e (site (base a)) c in (((site_is (base a) e).0 r.0).0, (keeps-is a e).0 r.1)),
-      (λ p. lists.Contains-filter (keeps a) e (site (base a)) ((site_is (base a) e).1 (p.0, kept_fixed a e (base a) (subst (λ k. pos 0 <ℤ k) (sym number) (above n n_some)) p.1 (image_of_base a n n_some number two))) ((keeps-is a e).1 p.1)),
-    )
+    full_is e =
+        let number = means.number m in (
+          (λ c. let r = lists.Contains-from_filter (keeps m.average) e (site base) c in (((site_is base e).0 r.0).0, (keeps-is m.average e).0 r.1)),
+          (λ p.
+              let inside = image_of_base m.average n m.some number (means.idempotent_itself m) in
+              let fixed = kept_fixed m.average e base (subst (λ k. pos 0 <ℤ k) (sym number) (above n m.some)) p.1 inside in
+              lists.Contains-filter (keeps m.average) e (site base) ((site_is base e).1 (p.0, fixed)) ((keeps-is m.average e).1 p.1)),
+        )
 
-    full_distinct : (a : Block) → IsDistinct map_eq (full a)
+    full_distinct : IsDistinct map_eq full
     unfolding full
-    full_distinct a = lists.distinct-filter map_eq map_eq-is (keeps a) (site (base a)) (site_distinct (base a))
+    full_distinct = lists.distinct-filter map_eq map_eq-is (keeps m.average) (site base) (site_distinct base)
 
-    pub full_closed : (a : Block) → a.n ≡ pos n → block_times a a ≡ block_scaled a.n a → IsClosedList (space L) (full a)
-    full_closed a number two = record {
-      distinct = full_distinct a;
-      valid = λ k d l. ((full_is a number two _).0 (Contains-get_or (full a) k d l)).0;
-      has_one = (full_is a number two identity_map).1 ((space L).one_in, identity_times a);
+    pub full_closed : IsClosedList (space L) full
+    full_closed = record {
+      distinct = full_distinct;
+      valid = λ k d l. ((full_is _).0 (Contains-get_or full k d l)).0;
+      has_one = (full_is identity_map).1 ((space L).one_in, identity_times m.average);
       closed = λ g f p q.
-          let x = (full_is a number two g).0 p in
-          let y = (full_is a number two f).0 q in
-          (full_is a number two (g ∘ f)).1 ((space L).mul_in g f x.0 y.0, ap (λ b. block_times b a) (block_of-∘ g f) ∙ block_times_assoc (block_of g) (block_of f) a ∙ ap (block_times (block_of g)) y.1 ∙ x.1);
+          let x = (full_is g).0 p in
+          let y = (full_is f).0 q in
+          (full_is (g ∘ f)).1 (
+            (space L).mul_in g f x.0 y.0,
+            ap (λ b. block_times b m.average) (block_of-∘ g f) ∙ block_times_assoc (block_of g) (block_of f) m.average ∙ ap (block_times (block_of g)) y.1 ∙ x.1,
+          );
     }
 
-    pub full_own : (ss : List Map) (a : Block) → IsClosedList (space L) ss → IsMean n ss a → IsOwn L n (full a) a
-    full_own ss a c mean =
-        let number = means.number L n n_some ss c a mean in
-        let two = means.idempotent_itself L n n_some ss c a mean in
-        let is = full_is a number two in
-        record {
-          closed = full_closed a number two;
-          mean = means.same_mean L n n_some ss c a mean (full a) (full_closed a number two)
-              (λ e m. (is e).1 (All-contains (IsElement unit members) ss e c.valid m, means.member_keeps L n n_some ss c a mean e m)) (λ e m. ((is e).0 m).1);
-          exactly = is;
-        }
+    -- all elements that leave the average as it is: they have the same average
+    abbrev pub full_of : Averaged L n
+    full_of = record {
+      some = m.some;
+      list = full;
+      closed = full_closed;
+      average = m.average;
+      is_mean = means.same_mean m full full_closed (λ e c. (full_is e).1 (All-contains (IsElement unit members) m.list e m.closed.valid c, means.member_keeps m e c)) (λ e c. ((full_is e).0 c).1);
+    }
+
+    pub full_own : IsOwn L full_of
+    full_own = full_is

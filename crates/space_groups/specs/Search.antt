@@ -1,4 +1,4 @@
--- The sets that a search for the rows keeps: what each of them is, and when the search is done.
+-- What a search for the rows of the table keeps, and when it is done. This project's own.
 use Rattle.std.specs.Prelude.{◌≡◌, ℕ, ◌*◌, ◌<◌, ◌≢◌, ◌↔◌, List, [], ◌∷◌, length, All, AllPairs, Contains}
 use Rattle.lattice_algebra.specs.Matrix.{Matrix}
 use Rattle.lattice_algebra.specs.Operator.{Operator, IsOperator, identity_operator, product, HasEntriesWithin}
@@ -9,14 +9,14 @@ use Rattle.space_groups.specs.Regions.{Sizes, IsWhole, IsReach, IsInBox}
 use Rattle.space_groups.specs.Keys.{Key, IsKey}
 use Rattle.space_groups.specs.Rows.{Row, IsRowBefore}
 
--- elements of the space group, each once, with the identity and the product of each two
+-- a finite group of elements of the space group: each once, with the identity and the product of each two
 pub record IsSub (unit : ℕ) (members : List Operator) (list : List Map) : Type 0 where
   pub elements : All (IsElement unit members) list
   pub once : AllPairs (λ e f. e ≢ f) list
   pub identity : Contains list identity_map
   pub products : (e f : Map) → Contains list e → Contains list f → Contains list (e ∘ f)
 
--- the maps of the list fix z
+-- all maps of the list fix z
 abbrev pub FixAll : List Map → ScaledPoint → Type 0
 FixAll list z = (e : Map) → Contains list e → moved e z ≡ z
 
@@ -35,6 +35,8 @@ pub record Kept : Type 0 where
   pub whole : Matrix
   pub size : Sizes
 
+-- the set is a group and has the average and the key; mult is the number of points in the cell of a point that no more elements fix
+-- than the whole image; the average has the denominator, and its image reaches no further than the sizes
 pub record IsKept (unit : ℕ) (members : List Operator) (k : Kept) : Type 0 where
   pub sub : IsSub unit members k.set
   pub mean : IsMean (length members) k.set k.average
@@ -44,7 +46,7 @@ pub record IsKept (unit : ℕ) (members : List Operator) (k : Kept) : Type 0 whe
   pub whole : IsWhole k.denominator k.whole k.average
   pub reach : IsReach unit k.denominator (length members) k.size k.average
 
--- the set that k and e generate: a Sub that fixes exactly what k and e fix, with its average and its key
+-- k and e generate a group with the key p: it fixes exactly what the set of k and e fix
 pub record IsGrown (unit : ℕ) (members : List Operator) (k : Kept) (e : Map) (p : Key) : Type 0 where
   pub list : List Map
   pub sub : IsSub unit members list
@@ -53,14 +55,16 @@ pub record IsGrown (unit : ℕ) (members : List Operator) (k : Kept) (e : Map) (
   pub mean : IsMean (length members) list average
   pub key : IsKey unit members (length members) average p
 
--- each set that k and an element in its box generate has its key among the kept ones, where some point is fixed by all
+-- whatever k and an element in its box generate has its key among the kept ones, where some point is fixed by all
 abbrev pub IsDone : ℕ → List Operator → List Kept → Kept → Type 0
 IsDone unit members kept k = (e : Map) → IsElement unit members e → IsInBox unit k.size e → (y : ScaledPoint) → FixAll k.set y → moved e y ≡ y → (t : Kept) × Contains kept t × IsGrown unit members k e t.key
 
+-- what the row of a kept set shows
 abbrev pub row_of : Kept → Row
 row_of k = record { mult = k.mult; key = k.key }
 
--- what a finished search is, and its rows in order
+-- the search is finished: it has the group of the identity alone, no key twice, and nothing to grow; the rows are those of the kept
+-- sets, in order
 pub record IsSearch (unit : ℕ) (members : List Operator) (kept : List Kept) (rows : List Row) : Type 0 where
   pub all : All (IsKept unit members) kept
   pub trivial : (k : Kept) × Contains kept k × (k.set ≡ identity_map ∷ [])
@@ -69,7 +73,7 @@ pub record IsSearch (unit : ℕ) (members : List Operator) (kept : List Kept) (r
   pub rows_are : (row : Row) → Contains rows row ↔ ((k : Kept) × Contains kept k × (row_of k ≡ row))
   pub ordered : AllPairs IsRowBefore rows
 
--- the operators of a group modulo the cell, each once, in the sizes that the code holds
+-- the operators of a group modulo the cell, each once, with matrices whose entries are of size at most 2
 pub record IsMembers (unit : ℕ) (members : List Operator) : Type 0 where
   pub operators : All (IsOperator unit) members
   pub once : AllPairs (λ f g. f ≢ g) members
