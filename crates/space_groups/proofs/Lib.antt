@@ -9,18 +9,18 @@ pub mod Generic
 pub mod Keys
 pub mod Sites
 pub mod Orbits
-pub mod Rows
 pub mod Points
 pub mod SiteLists
 pub mod OrbitLists
-pub mod Laws
-pub mod Headline
 pub mod Divided
+pub mod Laws
+pub mod Rows
 pub mod Near
 pub mod PointKeys
-mod OneOperator
+pub mod Headline
 pub mod Growing
 pub mod NearOrigin
 pub mod Ordered
 pub mod Search
 pub mod Theorem
+mod OneOperator

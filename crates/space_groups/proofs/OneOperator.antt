@@ -24,50 +24,17 @@ use Rattle.space_groups.proofs.Ordered.{not_before_itself}
 use Rattle.space_groups.proofs.Means as means
 use Rattle.space_groups.proofs.Theorem.{table_of_search}
 
-unit_some : 0 < 12
-unit_some = omega arith
-
 abbrev only : List Operator
 only = identity_operator ∷ []
 
 only_one : (f : Operator) → Contains only f → identity_operator ≡ f
 only_one f c = ⊎_elim (λ e. e) (λ d. lists.not_in_nil f d) (lists.Contains-cases f identity_operator [] c)
 
-abbrev F : Group
-F = operators 12 unit_some
-
-only_closed : IsClosedList F only
-only_closed = record {
-  distinct = IsDistinct-from_apart F.eq only (λ i j d l m. absurd (omega arith));
-  valid = λ k d l. subst (IsOperator 12) (only_one _ (Contains-get_or only k d l)) F.one_in;
-  has_one = lists.Contains-here identity_operator [];
-  closed = λ a b p q. subst (Contains only) (sym (ap₂ (λ x y. product 12 x y) (sym (only_one a p)) (sym (only_one b q)) ∙ F.left identity_operator F.one_in)) (lists.Contains-here identity_operator []);
-}
-
-abbrev shifts : SpaceGroup
-shifts = record { unit = 12; some = unit_some; members = only; closed = only_closed }
-
-same_matrix : (e : Map) → identity_operator ≡ operator_of 12 e → identity ≡ e.w
-unfolding operator_of
-same_matrix e p = ap (λ (v : Operator). v.w) p
-
--- an element that fixes a point is the identity
-is_identity : (e : Map) (y : ScaledPoint) → IsElement 12 only e → moved e y ≡ y → identity_map ≡ e
-is_identity e y m f = one_rotation identity_map e y (moved-identity y) f (same_matrix e (only_one (operator_of 12 e) m))
-
 abbrev alone : List Map
 alone = identity_map ∷ []
 
 in_alone : (f : Map) → Contains alone f → identity_map ≡ f
 in_alone f c = ⊎_elim (λ e. e) (λ d. lists.not_in_nil f d) (lists.Contains-cases f identity_map [] c)
-
-alone_closed : IsClosedList (space shifts) alone
-alone_closed = record {
-  distinct = IsDistinct-from_apart map_eq alone (λ i j d l m. absurd (omega arith));
-  valid = λ k d l. subst (IsElement 12 only) (in_alone _ (Contains-get_or alone k d l)) (space shifts).one_in;
-  has_one = lists.Contains-here identity_map [];
-  closed = λ a b p q. subst (Contains alone) (sym (ap₂ (λ x y. x ∘ y) (sym (in_alone a p)) (sym (in_alone b q)) ∙ identity-∘ identity_map)) (lists.Contains-here identity_map []);
-}
 
 abbrev whole_space : Block
 whole_space = record { m = identity; t = origin; n = pos 1 }
@@ -79,21 +46,6 @@ is_block = refl
 alone_mean : IsMean 1 alone whole_space
 unfolding block_scaled block_plus block_of scaled times ◌+ᵐ◌ ◌+ᶜ◌
 alone_mean = refl
-
-abbrev the_key : Key
-the_key = key_of 12 1 whole_space
-
-stays_whole : (g : Map) → IsElement 12 only g → carried g whole_space ≡ whole_space
-unfolding carried
-stays_whole g m = ap (λ b. block_times (block_times (block_of g) b) (block_of (undo g))) (sym is_block) ∙ ap (λ b. block_times b (block_of (undo g))) (times_identity (block_of g)) ∙ sym (block_of-∘ g (undo g)) ∙ ap block_of ((space shifts).inv_right g m) ∙ is_block
-
-alone_key : IsKey 12 only 1 whole_space the_key
-alone_key = record {
-  by = identity_map;
-  element = (space shifts).one_in;
-  gives = ap (key_of 12 1) (stays_whole identity_map (space shifts).one_in);
-  first = λ g m l. not_before_itself the_key (subst (λ b. ComesBefore (key_of 12 1 b) the_key) (stays_whole g m) l);
-}
 
 narrow_identity : HasEntriesWithin 2 identity
 narrow_identity =
@@ -107,74 +59,120 @@ all_one P x p k d l = subst P (at k l) p
     at zero l = refl
     at (suc k) l = absurd (omega arith)
 
-only_members : IsMembers 12 only
-only_members = record {
-  operators = only_closed.valid;
-  once = λ i j d l m. absurd (omega arith);
-  identity = only_closed.has_one;
-  products = only_closed.closed;
-  narrow = λ f c. subst (λ v. HasEntriesWithin 2 v.w) (only_one f c) narrow_identity;
-}
-
-alone_sub : IsSub 12 only alone
-alone_sub = record { elements = alone_closed.valid; once = λ i j d l m. absurd (omega arith); identity = alone_closed.has_one; products = alone_closed.closed }
-
 some_point : ScaledPoint
 some_point = record { n = origin; d = 1; some = omega arith }
 
-in_whole : (y : ScaledPoint) → IsInImage whole_space y
-in_whole y = means.fixed_image {L = shifts} (record { some = omega arith; list = alone; closed = alone_closed; average = whole_space; is_mean = alone_mean }) y (λ e c. subst (λ v. moved v y ≡ y) (in_alone e c) (moved-identity y))
+module _ (unit : ℕ) (some : 0 < unit) where
+  abbrev F : Group
+  F = operators unit some
 
--- the elements that fix all points are the identity alone
-full_length : (list : List Map) → IsFull 12 only whole_space list → length list * 1 ≡ 1
-full_length list f =
-    let le : length list ≤ length alone = lists.pigeonhole map_eq map_eq-is list alone (IsDistinct-from_AllPairs map_eq-is list f.once) (λ e c.
-    let r = (f.exactly e).0 c in subst (Contains alone) (is_identity e some_point r.0 (r.1 some_point (in_whole some_point))) (lists.Contains-here identity_map [])) in
-    let some : 0 < length list = omega (arith, ((f.exactly identity_map).1 ((space shifts).one_in, λ y _. moved-identity y)).1) in
-    omega (arith, le, some)
+  only_closed : IsClosedList F only
+  only_closed = record {
+    distinct = IsDistinct-from_apart F.eq only (λ i j d l m. absurd (omega arith));
+    valid = λ k d l. subst (IsOperator unit) (only_one _ (Contains-get_or only k d l)) F.one_in;
+    has_one = lists.Contains-here identity_operator [];
+    closed = λ a b p q. subst (Contains only) (sym (ap₂ (λ x y. product unit x y) (sym (only_one a p)) (sym (only_one b q)) ∙ F.left identity_operator F.one_in)) (lists.Contains-here identity_operator []);
+  }
 
-abbrev the_set : Kept
-the_set = record { set = alone; average = whole_space; key = the_key; mult = 1; denominator = 1; whole = identity; size = record { x = 1; y = 1; z = 1 } }
+  abbrev shifts : SpaceGroup
+  shifts = record { unit = unit; some = some; members = only; closed = only_closed }
 
-set_kept : IsKept 12 only the_set
-set_kept = record {
-  sub = alone_sub;
-  mean = alone_mean;
-  key = alone_key;
-  mult = full_length;
-  some = omega arith;
-  whole = refl;
-  reach = record { x = omega arith; y = omega arith; z = omega arith };
-}
+  same_matrix : (e : Map) → identity_operator ≡ operator_of unit e → identity ≡ e.w
+  unfolding operator_of
+  same_matrix e p = ap (λ (v : Operator). v.w) p
 
-set_done : IsDone 12 only (the_set ∷ []) the_set
-set_done e m box y h f =
-    let i = is_identity e y m f in (
-      the_set,
-      lists.Contains-here the_set [],
-      record {
-        list = alone;
-        sub = alone_sub;
-        fixes = λ z. ((λ g. (g, subst (λ v. moved v z ≡ z) i (moved-identity z))), (λ g. g.0));
-        average = whole_space;
-        mean = alone_mean;
-        key = alone_key;
-      },
-    )
+  -- an element that fixes a point is the identity
+  is_identity : (e : Map) (y : ScaledPoint) → IsElement unit only e → moved e y ≡ y → identity_map ≡ e
+  is_identity e y m f = one_rotation identity_map e y (moved-identity y) f (same_matrix e (only_one (operator_of unit e) m))
 
-the_search : IsSearch 12 only (the_set ∷ []) (row_of the_set ∷ [])
-the_search = record {
-  all = all_one (IsKept 12 only) the_set set_kept;
-  trivial = (the_set, lists.Contains-here the_set [], refl);
-  apart = λ i j d l m. absurd (omega arith);
-  done = all_one (IsDone 12 only (the_set ∷ [])) the_set set_done;
-  rows_are = λ row. (
-    (λ c. (the_set, lists.Contains-here the_set [], ⊎_elim (λ e. e) (λ d. lists.not_in_nil row d) (lists.Contains-cases row (row_of the_set) [] c))),
-    (λ r. subst (Contains (row_of the_set ∷ [])) (ap row_of (⊎_elim (λ e. e) (λ d. lists.not_in_nil r.0 d) (lists.Contains-cases r.0 the_set [] r.1)) ∙ r.2) (lists.Contains-here (row_of the_set) [])),
-  );
-  ordered = λ i j d l m. absurd (omega arith);
-}
+  alone_closed : IsClosedList (space shifts) alone
+  alone_closed = record {
+    distinct = IsDistinct-from_apart map_eq alone (λ i j d l m. absurd (omega arith));
+    valid = λ k d l. subst (IsElement unit only) (in_alone _ (Contains-get_or alone k d l)) (space shifts).one_in;
+    has_one = lists.Contains-here identity_map [];
+    closed = λ a b p q. subst (Contains alone) (sym (ap₂ (λ x y. x ∘ y) (sym (in_alone a p)) (sym (in_alone b q)) ∙ identity-∘ identity_map)) (lists.Contains-here identity_map []);
+  }
 
--- the table of the smallest space group has one row
-table_of_shifts : IsTable 12 only (row_of the_set ∷ [])
-table_of_shifts = table_of_search 12 unit_some only only_members (the_set ∷ []) (row_of the_set ∷ []) the_search
+  abbrev the_key : Key
+  the_key = key_of unit 1 whole_space
+
+  stays_whole : (g : Map) → IsElement unit only g → carried g whole_space ≡ whole_space
+  unfolding carried
+  stays_whole g m = ap (λ b. block_times (block_times (block_of g) b) (block_of (undo g))) (sym is_block) ∙ ap (λ b. block_times b (block_of (undo g))) (times_identity (block_of g)) ∙ sym (block_of-∘ g (undo g)) ∙ ap block_of ((space shifts).inv_right g m) ∙ is_block
+
+  alone_key : IsKey unit only 1 whole_space the_key
+  alone_key = record {
+    by = identity_map;
+    element = (space shifts).one_in;
+    gives = ap (key_of unit 1) (stays_whole identity_map (space shifts).one_in);
+    first = λ g m l. not_before_itself the_key (subst (λ b. ComesBefore (key_of unit 1 b) the_key) (stays_whole g m) l);
+  }
+
+  only_members : IsMembers unit only
+  only_members = record {
+    operators = only_closed.valid;
+    once = λ i j d l m. absurd (omega arith);
+    identity = only_closed.has_one;
+    products = only_closed.closed;
+    narrow = λ f c. subst (λ v. HasEntriesWithin 2 v.w) (only_one f c) narrow_identity;
+  }
+
+  alone_sub : IsSub unit only alone
+  alone_sub = record { elements = alone_closed.valid; once = λ i j d l m. absurd (omega arith); identity = alone_closed.has_one; products = alone_closed.closed }
+
+  in_whole : (y : ScaledPoint) → IsInImage whole_space y
+  in_whole y = means.fixed_image {L = shifts} (record { some = omega arith; list = alone; closed = alone_closed; average = whole_space; is_mean = alone_mean }) y (λ e c. subst (λ v. moved v y ≡ y) (in_alone e c) (moved-identity y))
+
+  -- the elements that fix all points are the identity alone
+  full_length : (list : List Map) → IsFull unit only whole_space list → length list * 1 ≡ 1
+  full_length list f =
+      let le : length list ≤ length alone = lists.pigeonhole map_eq map_eq-is list alone (IsDistinct-from_AllPairs map_eq-is list f.once) (λ e c.
+      let r = (f.exactly e).0 c in subst (Contains alone) (is_identity e some_point r.0 (r.1 some_point (in_whole some_point))) (lists.Contains-here identity_map [])) in
+      let has_one : 0 < length list = omega (arith, ((f.exactly identity_map).1 ((space shifts).one_in, λ y _. moved-identity y)).1) in
+      omega (arith, le, has_one)
+
+  abbrev the_set : Kept
+  the_set = record { set = alone; average = whole_space; key = the_key; mult = 1; denominator = 1; whole = identity; size = record { x = 1; y = 1; z = 1 } }
+
+  set_kept : IsKept unit only the_set
+  set_kept = record {
+    sub = alone_sub;
+    mean = alone_mean;
+    key = alone_key;
+    mult = full_length;
+    some = omega arith;
+    whole = refl;
+    reach = record { x = omega arith; y = omega arith; z = omega arith };
+  }
+
+  set_done : IsDone unit only (the_set ∷ []) the_set
+  set_done e m box y h f =
+      let i = is_identity e y m f in (
+        the_set,
+        lists.Contains-here the_set [],
+        record {
+          list = alone;
+          sub = alone_sub;
+          fixes = λ z. ((λ g. (g, subst (λ v. moved v z ≡ z) i (moved-identity z))), (λ g. g.0));
+          average = whole_space;
+          mean = alone_mean;
+          key = alone_key;
+        },
+      )
+
+  the_search : IsSearch unit only (the_set ∷ []) (row_of the_set ∷ [])
+  the_search = record {
+    all = all_one (IsKept unit only) the_set set_kept;
+    trivial = (the_set, lists.Contains-here the_set [], refl);
+    apart = λ i j d l m. absurd (omega arith);
+    done = all_one (IsDone unit only (the_set ∷ [])) the_set set_done;
+    rows_are = λ row. (
+      (λ c. (the_set, lists.Contains-here the_set [], ⊎_elim (λ e. e) (λ d. lists.not_in_nil row d) (lists.Contains-cases row (row_of the_set) [] c))),
+      (λ r. subst (Contains (row_of the_set ∷ [])) (ap row_of (⊎_elim (λ e. e) (λ d. lists.not_in_nil r.0 d) (lists.Contains-cases r.0 the_set [] r.1)) ∙ r.2) (lists.Contains-here (row_of the_set) [])),
+    );
+    ordered = λ i j d l m. absurd (omega arith);
+  }
+
+  -- the table of the smallest space group has one row
+  table_of_shifts : IsTable unit only (row_of the_set ∷ [])
+  table_of_shifts = table_of_search unit some only only_members (the_set ∷ []) (row_of the_set ∷ []) the_search

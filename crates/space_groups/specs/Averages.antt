@@ -1,5 +1,6 @@
 -- The average over a list of maps: the special-position operator of a point is that over its site-symmetry group.
--- Averages stand over a common denominator, as blocks of a matrix, a column and a number, so that sums and products are exact.
+-- Averages stand over a common denominator, as blocks of a matrix, a column and a number, so that sums and products are exact: this
+-- project's own.
 use Rattle.std.specs.Prelude.{◌≡◌, ℕ, ℤ, pos, ◌+ℤ◌, ◌*ℤ◌, List, [], ◌∷◌, length}
 use Rattle.lattice_algebra.specs.Matrix.{Matrix, Column, ◌·◌, ◌·ᶜ◌, ◌+ᶜ◌, ◌+ᵐ◌, times, scaled, origin, no_matrix}
 use Rattle.lattice_algebra.specs.Map.{Map}

@@ -35,8 +35,8 @@ pub record Kept : Type 0 where
   pub whole : Matrix
   pub size : Sizes
 
--- the set is a group and has the average and the key; mult is the number of points in the cell of a point that no more elements fix
--- than the whole image; the average has the denominator, and its image reaches no further than the sizes
+-- the set is a group with this average and this key; mult times the number of elements that fix the whole image is the number of
+-- members; the denominator and the sizes are those of the average
 pub record IsKept (unit : ℕ) (members : List Operator) (k : Kept) : Type 0 where
   pub sub : IsSub unit members k.set
   pub mean : IsMean (length members) k.set k.average
