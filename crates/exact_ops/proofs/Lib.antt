@@ -1,2 +1,4 @@
 pub mod Narrow
 pub mod Listed
+mod Points
+mod Images

@@ -3,18 +3,32 @@
 //! International Tables A: the symmetry operation `x -> W x + t / UNIT`, taken modulo the translations of the lattice.
 #![tactic(auto)]
 
+mod image;
 mod matrix;
+mod moves;
 mod op;
 mod op_list;
+mod point;
 mod raw;
 
 pub use matrix::Rotation;
+pub use moves::Move;
 pub use op::{Op, OpFault, compose, inverse};
 pub use op_list::{NoMemory, OpList, PushFault};
+pub use point::Point;
 pub use raw::Raw;
 
 /// The number of parts of a cell in which translations are counted.
 pub const UNIT: u32 = 12;
+
+/// The greatest size of a coordinate of a point, in cells.
+pub const MAX_COORDINATE: u32 = 1_000_000_000;
+
+/// The greatest denominator of a coordinate of a point as it is given.
+pub const MAX_DENOMINATOR: u32 = 1_000_000;
+
+/// The greatest size of a whole shift of an element of the space group, in cells.
+pub const MAX_SHIFT: u64 = 10_000_000_000;
 
 #[cfg(test)]
 mod tests;

@@ -1,6 +1,6 @@
 ghost use Rattle.std.specs.Prelude.{◌≡◌, ◌≤◌, ◌↔◌, ◌*◌, ◌-◌, IsTrue, unsigned_abs, pos, ◌+ℤ◌, ◌-ℤ◌, ◌*ℤ◌};
-ghost use Rattle.std.specs.Int.{int_rem_euclid};
-ghost use Rattle.lattice_algebra.specs.Matrix.{sum_of_products, entries, matrix_of, column_of, coordinates, det, adjugate, scaled, neg_column, IsUnimodular, ◌·◌, ◌·ᶜ◌, ◌+ᶜ◌};
+ghost use Rattle.std.specs.Int.{int_div_euclid, int_rem_euclid};
+ghost use Rattle.lattice_algebra.specs.Matrix.{sum_of_products, entries, matrix_of, column_of, coordinates, det, adjugate, scaled, neg_column, times, IsUnimodular, ◌·◌, ◌·ᶜ◌, ◌+ᶜ◌};
 ghost use Rattle.lattice_algebra.specs.Operator.{modulo, IsPart, AreParts, AreWithin, HasEntriesWithin};
 ghost use Rattle.exact_ops.specs.Fields.{matrix_in, column_in};
 
@@ -193,6 +193,21 @@ impl Translation {
         }
     }
 
+    /// The whole cells that `moved` drops.
+    pub fn carried(&self, w: &Rotation, t: &Translation) -> Translation
+        requires narrow { HasEntriesWithin 2 (matrix_in w.now) }
+        requires from { AreWithin (UNIT - 1) self.now.x self.now.y self.now.z }
+        requires by { AreWithin (UNIT - 1) t.now.x t.now.y t.now.z }
+        ensures value { matrix_in w.now ·ᶜ column_in self.now +ᶜ column_in t.now ≡ modulo UNIT (matrix_in w.now ·ᶜ column_in self.now +ᶜ column_in t.now) +ᶜ times (pos UNIT) (column_in result) }
+        ensures size { AreWithin 7 result.x result.y result.z }
+    {
+        Translation {
+            x: carry(w.xx, w.xy, w.xz, self.x, self.y, self.z, t.x),
+            y: carry(w.yx, w.yy, w.yz, self.x, self.y, self.z, t.y),
+            z: carry(w.zx, w.zy, w.zz, self.x, self.y, self.z, t.z),
+        }
+    }
+
     pub fn negated(&self) -> Translation
         requires { AreWithin (UNIT - 1) self.now.x self.now.y self.now.z }
         ensures value { column_in result ≡ neg_column (column_in self.now) }
@@ -237,6 +252,17 @@ fn place(a: i32, b: i32, c: i32, x: i32, y: i32, z: i32, t: i32) -> i32
     ensures { result ≡ int_rem_euclid (sum_of_products a b c x y z +ℤ t) (pos UNIT) }
 {
     (dot(a, b, c, x, y, z) + t).rem_euclid(UNIT as i32)
+}
+
+/// The whole cells that `place` drops.
+fn carry(a: i32, b: i32, c: i32, x: i32, y: i32, z: i32, t: i32) -> i32
+    requires left { AreWithin 2 a b c }
+    requires right { AreWithin (UNIT - 1) x y z }
+    requires by { unsigned_abs t ≤ UNIT - 1 }
+    ensures value { result ≡ int_div_euclid (sum_of_products a b c x y z +ℤ t) (pos UNIT) }
+    ensures size { unsigned_abs result ≤ 7 }
+{
+    (dot(a, b, c, x, y, z) + t).div_euclid(UNIT as i32)
 }
 
 /// Sign times a cofactor.

@@ -1,12 +1,20 @@
-ghost use Rattle.std.specs.Prelude.{◌≡◌, ◌≤◌, ◌↔◌, IsTrue, IsSome, IfSome, IsOk, IfOk, IsErrOf, unsigned_abs};
-ghost use Rattle.lattice_algebra.specs.Matrix.{entries, coordinates, matrix_of, IsUnimodular, ◌·◌};
-ghost use Rattle.lattice_algebra.specs.Operator.{Operator, identity_operator, product, IsInverse, HasEntriesWithin};
+ghost use Rattle.std.specs.Prelude.{◌≡◌, ◌≤◌, ◌*◌, ◌↔◌, IsTrue, IsSome, IfSome, IsOk, IfOk, IsErrOf, unsigned_abs};
+ghost use Rattle.lattice_algebra.specs.Matrix.{entries, coordinates, matrix_of, column_of, IsUnimodular, ◌·◌};
+ghost use Rattle.lattice_algebra.specs.Operator.{Operator, identity_operator, product, IsInverse, AreWithin, HasEntriesWithin};
+ghost use Rattle.lattice_algebra.specs.Map.{map_of, ◌∘◌, IsShift};
+ghost use Rattle.lattice_algebra.specs.Point.{◌≈◌, image, HasCoordinatesWithin};
+ghost use Rattle.exact_ops.specs.declared.TheConstants.{UNIT as PARTS, MAX_COORDINATE, MAX_SHIFT};
 ghost use Rattle.exact_ops.specs.Narrow.{IsNarrow};
 ghost use Rattle.exact_ops.specs.Raw.{numbers_of};
+ghost use Rattle.exact_ops.specs.Points.{point_with};
+ghost use Rattle.exact_ops.specs.Numbers.{point_in};
+ghost use Rattle.exact_ops.specs.Moves.{map_with, IsShiftInRange};
 ghost use Rattle.exact_ops.specs.Fields.{matrix_in, column_in};
 
 use crate::UNIT;
+use crate::image::{image_coordinate, shift_coordinate};
 use crate::matrix::{Rotation, Translation};
+use crate::point::Point;
 use crate::raw::Raw;
 use std::marker::Model;
 
@@ -84,6 +92,39 @@ impl Op {
         ensures narrow { IsNarrow self.now }
     {
         self.t.numbers()
+    }
+
+    /// The numerators of the image of a point, over the denominator of the point. They are exact and not reduced, and can
+    /// leave the range of a Point.
+    pub fn image_of(&self, p: &Point) -> [i128; 3]
+        ensures value { point_with result p.now.d ≈ image PARTS (map_of self.now) (point_in p.now) }
+        ensures within { HasCoordinatesWithin (7 * MAX_COORDINATE) (point_with result p.now.d) }
+    {
+        let w = &self.w;
+        let t = &self.t;
+        let [x, y, z] = p.n;
+        let part = p.d / i128::from(UNIT);
+        [
+            image_coordinate(w.xx, w.xy, w.xz, t.x, x, y, z, part),
+            image_coordinate(w.yx, w.yy, w.yz, t.y, x, y, z, part),
+            image_coordinate(w.zx, w.zy, w.zz, t.z, x, y, z, part),
+        ]
+    }
+
+    /// The whole shift of self after first, where first is shifted by whole cells.
+    pub fn shift_after(&self, first: &Op, shift: &[i64; 3]) -> [i64; 3]
+        requires { IsShiftInRange (column_of shift.now) }
+        ensures value { IsShift PARTS (map_of self.now ∘ map_with first.now shift.now) (column_of result) }
+        ensures within { AreWithin (7 * MAX_SHIFT) (column_of result).x (column_of result).y (column_of result).z }
+    {
+        let w = &self.w;
+        let carry = first.t.carried(w, &self.t);
+        let [x, y, z] = *shift;
+        [
+            shift_coordinate(w.xx, w.xy, w.xz, carry.x, x, y, z),
+            shift_coordinate(w.yx, w.yy, w.yz, carry.y, x, y, z),
+            shift_coordinate(w.zx, w.zy, w.zz, carry.z, x, y, z),
+        ]
     }
 }
 

@@ -114,6 +114,10 @@ read w x y f e = to_z-of_z w x f ∙ e
 
 pub ruleset trips = (to_z-of_z)
 
+-- a number of known size is the same after it went to bits
+pub kept : (w : Width) (n : ℕ) (x : ℤ) → unsigned_abs x ≤ n → T (ltb n (2 ^ hbits w)) → back w x ≡ x
+kept w n x h t = to_z-of_z w x (fits_signed_from_abs w x (lt_of_le_of_lt h (ltb→lt n (2 ^ hbits w) t)))
+
 -- `i64::from(x)`, at an x of known size
 pub widened : {x : ℤ} (n : ℕ) (y : ℤ) → x ≡ back w32 y → unsigned_abs y ≤ n → T (ltb n (2 ^ 31)) → x ≡ y
-widened {x} n y e h t = e ∙ to_z-of_z w32 y (fits_signed_from_abs w32 y (lt_of_le_of_lt h (ltb→lt n (2 ^ 31) t)))
+widened {x} n y e h t = e ∙ kept w32 n y h t
