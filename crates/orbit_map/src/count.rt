@@ -1,0 +1,19 @@
+ghost use Rattle.std.specs.Prelude.{◌≡◌, ◌*◌, List, length};
+ghost use Rattle.lattice_algebra.specs.Map.{Map};
+ghost use Rattle.lattice_algebra.specs.Point as rational;
+ghost use Rattle.exact_ops.specs.Numbers.{point_in};
+ghost use Rattle.exact_ops.specs.declared.TheConstants.{UNIT};
+ghost use Rattle.space_groups.specs.Lists.{IsSiteList, IsOrbitList};
+
+use exact_ops::Point;
+use group_closure::Group;
+use site_symmetry::order_at;
+
+/// How many points the orbit of p has in a cell. The order of the site-symmetry group times it is the number of members of
+/// the group.
+pub fn multiplicity(g: &Group, p: &Point) -> u16
+    ensures value { (orbit : List rational.Point) → IsOrbitList UNIT g.now (point_in p.now) orbit → result ≡ length orbit }
+    ensures law { (site : List Map) → IsSiteList UNIT g.now (point_in p.now) site → length site * result ≡ length g.now }
+{
+    g.len() / order_at(g, p)
+}

@@ -1,0 +1,56 @@
+ghost use Rattle.std.specs.Prelude.{◌≡◌, ◌<◌, ◌≤◌, ◌*◌, ◌↔◌, List, ℤ, pos, ◌*ℤ◌, ◌<ℤ◌, unsigned_abs, Some, IsSome, IfSome, length, slice_get};
+ghost use Rattle.lattice_algebra.specs.Operator.{Operator};
+ghost use Rattle.lattice_algebra.specs.Map.{Map};
+ghost use Rattle.exact_ops.specs.Numbers.{point_in};
+ghost use Rattle.exact_ops.specs.Elements.{map_in};
+ghost use Rattle.exact_ops.specs.declared.TheConstants.{UNIT, MAX_COORDINATE};
+ghost use Rattle.space_groups.specs.Space.{IsInSite};
+ghost use Rattle.space_groups.specs.Lists.{IsSiteList};
+ghost use Rattle.site_symmetry.specs.OrderedSite.{SomeElementFixes};
+
+use exact_ops::{Move, Point};
+use group_closure::Group;
+
+/// The element of the operator at place i that maps p to itself. None exactly where no whole shift of that operator does.
+pub fn fixes(g: &Group, i: u8, p: &Point) -> Option<Move>
+    requires { i < length g.now }
+    ensures some { (f : Operator) → slice_get g.now i ≡ Some f → (IsSome result ↔ SomeElementFixes f (point_in p.now)) }
+    ensures operator { IfSome result (λ m. slice_get g.now i ≡ Some m.op) }
+    ensures value { IfSome result (λ m. IsInSite UNIT g.now (point_in p.now) (map_in m)) }
+{
+    let op = g.op(i);
+    let [x, y, z] = op.image_of(p);
+    let x = whole_cells(p.n[0] - x, p.d)?;
+    let y = whole_cells(p.n[1] - y, p.d)?;
+    let z = whole_cells(p.n[2] - z, p.d)?;
+    Some(Move {
+        op,
+        shift: [x, y, z],
+    })
+}
+
+/// The order of the site-symmetry group: how many elements of the space group map p to itself.
+pub fn order_at(g: &Group, p: &Point) -> u16
+    ensures { (site : List Map) → IsSiteList UNIT g.now (point_in p.now) site → result ≡ length site }
+{
+    let mut order = 0;
+    for i in 0..g.len() {
+        if fixes(g, i as u8, p).is_some() {
+            order += 1;
+        }
+    }
+    order
+}
+
+/// n / d, where it is whole.
+fn whole_cells(n: i128, d: i128) -> Option<i64>
+    requires positive { pos 0 <ℤ d }
+    requires near { unsigned_abs n ≤ 8 * MAX_COORDINATE * unsigned_abs d }
+    ensures some { IsSome result ↔ ((k : ℤ) × (n ≡ k *ℤ d)) }
+    ensures value { IfSome result (λ k. (n ≡ k *ℤ d) × (unsigned_abs k ≤ 8 * MAX_COORDINATE)) }
+{
+    if n % d != 0 {
+        return None;
+    }
+    Some((n / d) as i64)
+}

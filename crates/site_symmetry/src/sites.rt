@@ -1,0 +1,24 @@
+ghost use Rattle.std.specs.Prelude.{IfOk};
+ghost use Rattle.exact_ops.specs.Numbers.{point_in};
+ghost use Rattle.site_symmetry.specs.OrderedSite.{IsOrderedSite};
+
+use crate::fixing::fixes;
+use crate::parts::Site;
+use exact_ops::{NoMemory, Point};
+use group_closure::Group;
+use std::alloc::Global;
+
+/// The elements of the space group that map p to itself, in the order of their operators. All memory is taken first.
+pub fn site(alloc: Global, g: &Group, p: &Point) -> Result<Site, NoMemory>
+    ensures { IfOk result (λ site. IsOrderedSite g.now (point_in p.now) site) }
+{
+    let Ok(mut moves) = Vec::with_capacity(alloc, usize::from(g.len())) else {
+        return Err(NoMemory);
+    };
+    for i in 0..g.len() {
+        if let Some(element) = fixes(g, i as u8, p) {
+            moves.push_reserved(element);
+        }
+    }
+    Ok(Site { moves })
+}
