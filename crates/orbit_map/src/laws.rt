@@ -5,7 +5,7 @@ ghost use Rattle.lattice_algebra.specs.Point.{Point, IsPoint};
 ghost use Rattle.exact_ops.specs.declared.TheConstants.{UNIT};
 ghost use Rattle.group_closure.specs.GroupList.{IsGroup};
 ghost use Rattle.space_groups.specs.Lists.{IsSiteList, IsOrbitList};
-ghost use Rattle.orbit_map.specs.OrderedOrbit.{IsOrderedOrbit};
+ghost use Rattle.orbit_map.specs.OrderedOrbit.{IsScaled, IsOrderedOrbit};
 
 /// For every rational point the order of the site-symmetry group times the number of points of the orbit in a cell is
 /// the number of members of the group.

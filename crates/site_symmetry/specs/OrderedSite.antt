@@ -17,5 +17,5 @@ StandsBefore members a b = (i j : ℕ) → slice_get members i ≡ Some (operato
 
 -- the list has each element of the site-symmetry group of x once, in the order of their operators
 pub record IsOrderedSite (members : List Operator) (x : Point) (list : List Map) : Type 0 where
-  pub list : IsSiteList UNIT members x list
+  pub site : IsSiteList UNIT members x list
   pub ordered : AllPairs (StandsBefore members) list
