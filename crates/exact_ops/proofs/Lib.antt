@@ -2,3 +2,4 @@ pub mod Narrow
 pub mod Listed
 mod Points
 mod Images
+mod Shifts

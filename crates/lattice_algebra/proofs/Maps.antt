@@ -1,13 +1,15 @@
 -- The laws of maps, and of their operators modulo the cell.
-use Rattle.std.proofs.Common.{◌≡◌, ◌++◌, ◌∷◌, ℕ, ◌<◌, ℤ, pos, Bool, Decides, ap, ◌∙◌, refl, arith}
+use Rattle.std.proofs.Common.{◌≡◌, ◌++◌, ◌∷◌, ℕ, ◌<◌, ℤ, pos, Bool, Decides, ap, sym, subst, ◌∙◌, refl, arith}
 use Rattle.std.proofs.lemmas.Int.{ints}
 use Rattle.lattice_algebra.specs.Matrix.{Matrix, Column, entries, coordinates, ◌·◌, ◌·ᶜ◌, ◌+ᶜ◌, neg_column, times, identity, origin, IsUnimodular, inverse_matrix}
-use Rattle.lattice_algebra.specs.Operator.{Operator, product, IsOperator, identity_operator, IsPart}
-use Rattle.lattice_algebra.specs.Map.{Map, ◌∘◌, identity_map, undo, operator_of, map_of}
+use Rattle.lattice_algebra.specs.Operator.{Operator, product, modulo, IsOperator, identity_operator, IsPart}
+use Rattle.lattice_algebra.specs.Map.{Map, ◌∘◌, identity_map, undo, operator_of, map_of, IsShift}
 use Rattle.lattice_algebra.proofs.Ring.{var}
+use Rattle.lattice_algebra.proofs.Numbers.{above}
+use Rattle.lattice_algebra.proofs.Columns.{cancel_column, same_right, swap_columns}
 use Rattle.lattice_algebra.proofs.MatrixRing.{matrix_at, column_at, ◌·ˢ◌, ◌·ˢᶜ◌, ◌+ˢᶜ◌, sym_times, sym_neg, sym_identity, sym_origin, column_ring}
 use Rattle.lattice_algebra.proofs.Matrices.{·_assoc, identity-·, ·-identity, inverse_matrix-·, ·-inverse_matrix, IsUnimodular-identity}
-use Rattle.lattice_algebra.proofs.Remainders.{modulo_is, modulo_same, modulo_part, modulo_parts}
+use Rattle.lattice_algebra.proofs.Remainders.{modulo_is, modulo_same, modulo_part, modulo_parts, quotients, quotients_are}
 use Rattle.lattice_algebra.proofs.Equality.{operator_eq, operator_eq-is}
 
 pub map_path : (f g : Map) → f.w ≡ g.w → f.s ≡ g.s → f ≡ g
@@ -125,3 +127,51 @@ module _ (unit : ℕ) (some : 0 < unit) where
 
   pub IsOperator-identity : IsOperator unit identity_operator
   IsOperator-identity = let z : IsPart unit (pos 0) = omega (arith, ints) in record { unimodular = IsUnimodular-identity; in_cell = record { x = z; y = z; z = z } }
+
+-- ---- the whole shift of a map
+
+join_shifts : (u : ℤ) (c j k : Column) → c +ᶜ times u j +ᶜ times u k ≡ c +ᶜ times u (j +ᶜ k)
+unfolding ◌+ᶜ◌ times
+join_shifts u c j k =
+    let U = var 0 in
+    let C = column_at 1 in
+    let J = column_at 4 in
+    let K = column_at 7 in
+    column_ring (u ∷ (coordinates c ++ (coordinates j ++ coordinates k))) (C +ˢᶜ sym_times U J +ˢᶜ sym_times U K) (C +ˢᶜ sym_times U (J +ˢᶜ K)) tt
+
+shift_first : (u : ℤ) (w : Matrix) (t s j k : Column) → w ·ᶜ (s +ᶜ times u k) +ᶜ (t +ᶜ times u j) ≡ w ·ᶜ s +ᶜ t +ᶜ times u (w ·ᶜ k +ᶜ j)
+shift_first u w t s j k = absorb_left-column u (w ·ᶜ (s +ᶜ times u k)) t j ∙ ap (λ c. c +ᶜ times u j) (absorb_right-column u w t s k) ∙ join_shifts u (w ·ᶜ s +ᶜ t) (w ·ᶜ k) j
+
+-- the map of W and t with whole shifts
+abbrev pub with_shift : ℕ → Matrix → Column → Column → Map
+with_shift unit w t k = record { w = w; s = t +ᶜ times (pos unit) k }
+
+module _ (unit : ℕ) (some : 0 < unit) where
+  pub shift_exists : (g : Map) → (k : Column) × IsShift unit g k
+  shift_exists g = (quotients unit g.s, quotients_are unit some g.s)
+
+  pub one_shift : (g : Map) (j k : Column) → IsShift unit g j → IsShift unit g k → j ≡ k
+  one_shift g j k p q = cancel_column (pos unit) j k (above unit some) (same_right (modulo unit g.s) (times (pos unit) j) (times (pos unit) k) (sym p ∙ q))
+
+  -- two maps that differ by a whole shift
+  pub IsShift-more : (g h : Map) (j k : Column) → h.s ≡ g.s +ᶜ times (pos unit) k → IsShift unit g j → IsShift unit h (j +ᶜ k)
+  IsShift-more g h j k e p =
+      e ∙ ap (λ c. c +ᶜ times (pos unit) k) p ∙ join_shifts (pos unit) (modulo unit g.s) j k
+      ∙ ap (λ c. c +ᶜ times (pos unit) (j +ᶜ k)) (sym (modulo_same unit some h.s g.s k e))
+
+  -- whole shifts of the first map are turned, and those of the next are added
+  pub IsShift-first : (g : Map) (w : Matrix) (t j k : Column) → IsShift unit (g ∘ (record { w = w; s = t })) j → IsShift unit (g ∘ with_shift unit w t k) (g.w ·ᶜ k +ᶜ j)
+  unfolding ◌∘◌
+  IsShift-first g w t j k p = subst (IsShift unit (g ∘ with_shift unit w t k)) (swap_columns j (g.w ·ᶜ k)) (IsShift-more (g ∘ (record { w = w; s = t })) (g ∘ with_shift unit w t k) j (g.w ·ᶜ k) (absorb_right-column (pos unit) g.w g.s t k) p)
+
+  pub IsShift-next : (f : Map) (w : Matrix) (t j k : Column) → IsShift unit ((record { w = w; s = t }) ∘ f) j → IsShift unit (with_shift unit w t k ∘ f) (j +ᶜ k)
+  unfolding ◌∘◌
+  IsShift-next f w t j k p = IsShift-more ((record { w = w; s = t }) ∘ f) (with_shift unit w t k ∘ f) j k (absorb_left-column (pos unit) (w ·ᶜ f.s) t k) p
+
+  -- the product of two operators with whole shifts
+  pub product-shifted : (g f : Operator) (j k l : Column) → IsShift unit (with_shift unit g.w g.t j ∘ with_shift unit f.w f.t k) l
+      → with_shift unit (product unit g f).w (product unit g f).t l ≡ with_shift unit g.w g.t j ∘ with_shift unit f.w f.t k
+  unfolding ◌∘◌ product
+  product-shifted g f j k l p =
+      let same = modulo_same unit some _ _ (g.w ·ᶜ k +ᶜ j) (shift_first (pos unit) g.w g.t f.t j k) in
+      map_path _ _ refl (ap (λ c. c +ᶜ times (pos unit) l) (sym same) ∙ sym p)

@@ -1,6 +1,6 @@
 -- Remainders by a positive number, of numbers and of columns.
 use Rattle.std.proofs.Common.{◌≡◌, ℕ, zero, suc, [], ◌+◌, ◌-◌, ◌*◌, ◌/◌, ◌%◌, ◌<◌, ℤ, pos, negsuc, ◌*ℤ◌, ◌+ℤ◌, neg_ℤ, ap, sym, ◌∙◌, arith, refl, ◌∷◌}
-use Rattle.std.specs.Int.{int_rem_euclid}
+use Rattle.std.specs.Int.{int_div_euclid, int_rem_euclid}
 use Rattle.std.proofs.lemmas.Int.{ints}
 use borrow.Author.Differences.{up, down, same_in, sum_is_lem, product_is, neg_is}
 use lib.IntN.{+ℤ_idr, *ℤ-zero}
@@ -52,6 +52,19 @@ rem_same n h x y k e =
 pub rem_part : (n : ℕ) → 0 < n → (x : ℤ) → IsPart n x → int_rem_euclid x (pos n) ≡ x
 rem_part n h x p = let a = rem_is n h x in one_place n _ _ a.0 a.1 a.2 p
 
+-- a number is its remainder, and n times its quotient
+pub quotient_is : (n : ℕ) → 0 < n → (z : ℤ) → z ≡ int_rem_euclid z (pos n) +ℤ pos n *ℤ int_div_euclid z (pos n)
+quotient_is n h (pos a) = ap pos (above a n)
+  where
+    above : (a n : ℕ) → a ≡ a % n + n * (a / n)
+    above a n = omega arith
+quotient_is n h (negsuc a) = below (a % n) (a / n) (split_neg n a (a / n) (a % n) (omega arith) (omega arith))
+  where
+    below : (r q : ℕ) → pos (n - 1 - r) ≡ negsuc a +ℤ pos n *ℤ pos (suc q) → negsuc a ≡ pos (n - 1 - r) +ℤ pos n *ℤ negsuc q
+    below r q e =
+        let f : pos n *ℤ negsuc q ≡ neg_ℤ (pos (n * suc q)) = ring (pos n ∷ pos (suc q) ∷ []) (var 0 ⊗ neg (var 1)) (neg (var 0 ⊗ var 1)) tt in
+        omega (arith, ints)
+
 -- ---- columns modulo n
 
 pub modulo_is : (n : ℕ) → 0 < n → (c : Column) → (k : Column) × (modulo n c ≡ c +ᶜ times (pos n) k)
@@ -77,3 +90,11 @@ modulo_parts n h c = record { x = rem_bounds n h c.x; y = rem_bounds n h c.y; z 
 pub modulo_part : (n : ℕ) → 0 < n → (c : Column) → AreParts n c → modulo n c ≡ c
 unfolding modulo
 modulo_part n h c p = λ i. record { x = rem_part n h c.x p.x i; y = rem_part n h c.y p.y i; z = rem_part n h c.z p.z i }
+
+-- each number's quotient by n
+unfoldable pub quotients : ℕ → Column → Column
+quotients n c = record { x = int_div_euclid c.x (pos n); y = int_div_euclid c.y (pos n); z = int_div_euclid c.z (pos n) }
+
+pub quotients_are : (n : ℕ) → 0 < n → (c : Column) → c ≡ modulo n c +ᶜ times (pos n) (quotients n c)
+unfolding modulo ◌+ᶜ◌ times quotients
+quotients_are n h c = λ i. record { x = quotient_is n h c.x i; y = quotient_is n h c.y i; z = quotient_is n h c.z i }

@@ -1,39 +1,19 @@
 -- The laws of site-symmetry groups and orbits, for every rational point.
-use Rattle.std.proofs.Common.{◌≡◌, ◌++◌, ◌*◌, ℕ, ◌<◌, ◌↔◌, List, length, pos, Contains, ap, ap₂, sym, ◌∙◌, refl, subst}
-use Rattle.lattice_algebra.specs.Matrix.{Column, coordinates, ◌+ᶜ◌, neg_column, times}
-use Rattle.lattice_algebra.specs.Operator.{Operator, modulo}
-use Rattle.lattice_algebra.specs.Map.{Map, ◌∘◌, AreInverse, undo, operator_of, IsShift}
+use Rattle.std.proofs.Common.{◌≡◌, ◌*◌, ◌↔◌, List, length, Contains, ap, ap₂, sym, ◌∙◌, refl, subst}
+use Rattle.lattice_algebra.specs.Operator.{Operator}
+use Rattle.lattice_algebra.specs.Map.{Map, ◌∘◌, AreInverse, undo, operator_of}
 use Rattle.lattice_algebra.specs.Point.{Point, IsPoint, ◌≈◌, image}
-use Rattle.lattice_algebra.proofs.MatrixRing.{column_at, ◌+ˢᶜ◌, sym_neg, column_ring}
-use Rattle.lattice_algebra.proofs.Numbers.{above}
-use Rattle.lattice_algebra.proofs.Columns.{cancel_column}
 use Rattle.lattice_algebra.proofs.Points.{≈_sym, ≈_trans, image-same, IsPoint-image}
 use Rattle.finite_groups.proofs.Conjugates as conjugates
 use Rattle.space_groups.specs.Space.{IsElement, IsInSite, IsInOrbit, AreConjugate, HaveSameElement, moved, point_of}
 use Rattle.space_groups.specs.Lists.{IsSiteList, IsOrbitList}
 use Rattle.space_groups.proofs.Elements.{SpaceGroup, space, on_points}
-use Rattle.space_groups.proofs.Regions.{whole_part}
 use Rattle.space_groups.proofs.Sites.{site}
 use Rattle.space_groups.proofs.Orbits.{site_times_orbit}
 use Rattle.space_groups.proofs.Points.{image_of, scaled_of, site-scaled, conjugate-scaled, one_inverse}
 use Rattle.space_groups.proofs.SiteLists.{site_list, site_count}
 use Rattle.space_groups.proofs.OrbitLists.{orbit_points, orbit_list, orbit_count}
 use Rattle.space_groups.proofs.Divided.{one_rotation}
-
--- ---- the whole shift of a map
-
-pub shift_exists : (unit : ℕ) → 0 < unit → (g : Map) → (k : Column) × IsShift unit g k
-shift_exists unit h g = whole_part unit h g.s
-
-without_left : (r c : Column) → neg_column r +ᶜ (r +ᶜ c) ≡ c
-unfolding ◌+ᶜ◌ neg_column
-without_left r c = column_ring (coordinates r ++ coordinates c) (sym_neg (column_at 0) +ˢᶜ (column_at 0 +ˢᶜ column_at 3)) (column_at 3) tt
-
-same_right : (r c d : Column) → r +ᶜ c ≡ r +ᶜ d → c ≡ d
-same_right r c d e = sym (without_left r c) ∙ ap (λ v. neg_column r +ᶜ v) e ∙ without_left r d
-
-pub one_shift : (unit : ℕ) → 0 < unit → (g : Map) (j k : Column) → IsShift unit g j → IsShift unit g k → j ≡ k
-one_shift unit h g j k p q = cancel_column (pos unit) j k (above unit h) (same_right (modulo unit g.s) (times (pos unit) j) (times (pos unit) k) (sym p ∙ q))
 
 module _ (L : SpaceGroup) where
   open L use {unit, some, members, closed}

@@ -1,0 +1,27 @@
+use Rattle.std.proofs.Common.{◌≡◌, ◌*◌, ◌^◌, ap, sym, subst, ◌∙◌, List, ℕ, ℤ, [], ◌∷◌, w64}
+use mir.Syntax.{w128}
+use Rattle.lattice_algebra.proofs.Ring.{Expr, var, ◌⊕◌, ◌⊗◌, value}
+use Rattle.lattice_algebra.proofs.Machine.{IsWithin, computed, kept}
+use Rattle.exact_ops.specs.declared.TheConstants.{UNIT, MAX_COORDINATE, MAX_DENOMINATOR, MAX_SHIFT}
+use Rattle.exact_ops.proofs.moves.shifted.Goals as goal
+
+abbrev bounds : List ℕ
+bounds = (7 * MAX_COORDINATE * (UNIT * MAX_DENOMINATOR ^ 3)) ∷ MAX_SHIFT ∷ (UNIT * MAX_DENOMINATOR ^ 3) ∷ []
+
+abbrev numbers : goal.After-from → List ℤ
+numbers c = c.args.n ∷ c.from.result ∷ c.args.d ∷ []
+
+abbrev given : goal.After-from → List ℤ
+given c = c.args.n ∷ c.args.shift ∷ c.args.d ∷ []
+
+same_numbers : (c : goal.After-from) → numbers c ≡ given c
+same_numbers c = let s = c.from.ensures ∙ kept w64 MAX_SHIFT c.args.shift c.requires.shift tt in λ i. c.args.n ∷ s i ∷ c.args.d ∷ []
+
+within : (c : goal.After-from) → IsWithin bounds (numbers c)
+within c = subst (IsWithin bounds) (sym (same_numbers c)) (c.requires.numerator, (c.requires.shift, (c.requires.denominator, tt)))
+
+abbrev sum : Expr
+sum = var 0 ⊕ var 1 ⊗ var 2
+
+pub returns : goal.returns
+returns c = computed w128 bounds (numbers c) sum (within c) tt ∙ ap (λ r. value r sum) (same_numbers c)
