@@ -3,3 +3,4 @@ pub mod Listed
 mod Points
 mod Images
 mod Shifts
+mod WholeShifts

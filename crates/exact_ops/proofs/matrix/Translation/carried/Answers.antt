@@ -1,5 +1,5 @@
 use Rattle.std.proofs.Common.{rules, ◌≡◌, ap, ◌∙◌, pos, w32}
-use Rattle.lattice_algebra.specs.Matrix.{Column, ◌·ᶜ◌, ◌+ᶜ◌, times}
+use Rattle.lattice_algebra.specs.Matrix.{◌·ᶜ◌, ◌+ᶜ◌, times}
 use Rattle.lattice_algebra.specs.Operator.{modulo}
 use Rattle.lattice_algebra.proofs.Machine.{back, read}
 use Rattle.lattice_algebra.proofs.Remainders.{quotients, quotients_are}
