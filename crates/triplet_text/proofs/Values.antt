@@ -36,7 +36,7 @@ digits_from (byte ∷ text) n m e =
     let h = if_some (is_digit byte) (with_digits (10 * n + (byte - zero_digit)) text) m e in
     (h.0, digits_from text (10 * n + (byte - zero_digit)) m h.1)
 
-value_joined : (front back : List ℕ) → value_of (front ++ back) ≡ value_of front * 10 ^ length back + value_of back
+pub value_joined : (front back : List ℕ) → value_of (front ++ back) ≡ value_of front * 10 ^ length back + value_of back
 value_joined [] back = omega arith
 value_joined (byte ∷ front) back =
     let k : 10 ^ length (front ++ back) ≡ 10 ^ length front * 10 ^ length back = ap (λ (n : ℕ). 10 ^ n) (length-append front back) ∙ pow-add 10 (length front) (length back) in

@@ -9,6 +9,7 @@ pub mod Terms
 pub mod Sums
 pub mod Tokens
 pub mod Grammar
+pub mod Coordinates
 pub mod Triplets
 pub mod Fractions
 pub mod Printing

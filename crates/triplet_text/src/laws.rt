@@ -1,11 +1,17 @@
 ghost use Rattle.std.specs.Prelude.{◌≡◌, List, ℕ, ℤ, pos, ◌<ℤ◌, ◌*ℤ◌};
 ghost use Rattle.exact_ops.specs.Operator.{Operator};
 ghost use Rattle.triplet_text.specs.Grammar.{IsTriplet};
+ghost use Rattle.triplet_text.specs.Coordinates.{IsCoordinate};
 ghost use Rattle.triplet_text.specs.Fractions.{frac_text};
 
 /// A line is a triplet of one operator at most.
 pub fn triplet_is_unique()
     ensures { (line : List ℕ) (f g : Operator) → IsTriplet line f → IsTriplet line g → f ≡ g }
+{}
+
+/// A text is a coordinate with one numerator and one denominator at most.
+pub fn coordinate_is_unique()
+    ensures { (text : List ℕ) (n d m e : ℤ) → IsCoordinate text n d → IsCoordinate text m e → (n ≡ m) × (d ≡ e) }
 {}
 
 /// Fractions with one value have one text.

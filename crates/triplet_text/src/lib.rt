@@ -2,6 +2,7 @@
 #![tactic(auto)]
 
 mod component;
+mod coordinate;
 mod fraction;
 mod laws;
 mod lines;
@@ -13,8 +14,11 @@ mod term;
 mod text;
 mod triplet;
 
+pub use coordinate::{
+    COORDINATE_LENGTH, DECIMALS_LIMIT, DENOMINATOR_LIMIT, NUMERATOR_LIMIT, read_coord,
+};
 pub use fraction::print_frac;
-pub use laws::{equal_fractions_have_one_text, triplet_is_unique};
+pub use laws::{coordinate_is_unique, equal_fractions_have_one_text, triplet_is_unique};
 pub use lines::{LineFault, read_lines};
 pub use printing::print_triplet;
 pub use text::Text;

@@ -11,18 +11,17 @@ pub fn is_digit_byte(byte: u8) -> bool
 }
 
 /// The number with these digits written behind it.
-fn digits_behind(start: u64, text: &[u8]) -> Option<u64>
-    requires start { start < 10 ^ 6 }
-    requires few { length text.now ≤ 6 }
+pub fn digits_behind(start: u128, text: &[u8]) -> Option<u128>
+    requires { (start + 1) * 10 ^ length text.now ≤ 10 ^ 38 }
     ensures value { result ≡ with_digits start text.now }
-    ensures bound { IfSome result (λ n. n < (start + 1) * 10 ^ 6) }
+    ensures bound { IfSome result (λ n. n < (start + 1) * 10 ^ length text.now) }
 {
     let mut n = start;
     for byte in text {
         if !is_digit_byte(*byte) {
             return None;
         }
-        n = 10 * n + u64::from(*byte - b'0');
+        n = 10 * n + u128::from(*byte - b'0');
     }
     Some(n)
 }
@@ -35,7 +34,7 @@ pub fn whole(text: &[u8]) -> Option<u64>
     if text.is_empty() || text.len() > 6 {
         return None;
     }
-    digits_behind(0, text)
+    Some(digits_behind(0, text)? as u64)
 }
 
 fn starts_with_zero(text: &[u8]) -> bool
@@ -71,7 +70,7 @@ pub fn decimal(front: &[u8], back: &[u8]) -> Option<u64>
         return None;
     }
     let n = digits_behind(0, front)?;
-    let n = digits_behind(n, back)?;
+    let n = digits_behind(n, back)? as u64;
     let thousandths = match back.len() {
         0 => n * 1000,
         1 => n * 100,
