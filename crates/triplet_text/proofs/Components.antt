@@ -31,7 +31,7 @@ abbrev is_fine : List ℕ → ℤ → ℤ → ℤ → ℕ → Bool
 is_fine text x y z t = is_value (sum_of text) x y z t && list_all is_plain text && leb (length text) 50
 
 abbrev reads_back : ℤ → ℤ → ℤ → ℕ → Bool
-reads_back x y z t = is_fine (component_text x y z (pos t)) x y z t
+reads_back x y z t = is_fine (component_text 1 x y z (pos t)) x y z t
 
 abbrev five : List ℤ
 five = negsuc 1 ∷ negsuc 0 ∷ pos 0 ∷ pos 1 ∷ pos 2 ∷ []
@@ -113,6 +113,6 @@ read_back_from text x y z t e =
     let b = both (is_value (sum_of text) x y z t) (list_all is_plain text) a.0 in
     record { reads = value_from (sum_of text) x y z t b.0; plain = each_plain text b.1; short = leb-true _ _ a.1 }
 
-pub component_back : (x y z parts : ℤ) → AreWithin 2 x y z → IsPart UNIT parts → IsReadBack (component_text x y z parts) x y z parts
-component_back x y z (pos t) small part = read_back_from (component_text x y z (pos t)) x y z t (each_reads_back x y z t small (omega (arith, ints, part)))
+pub component_back : (x y z parts : ℤ) → AreWithin 2 x y z → IsPart UNIT parts → IsReadBack (component_text 1 x y z parts) x y z parts
+component_back x y z (pos t) small part = read_back_from (component_text 1 x y z (pos t)) x y z t (each_reads_back x y z t small (omega (arith, ints, part)))
 component_back x y z (negsuc t) small part = absurd (omega (arith, ints, part))

@@ -1,9 +1,9 @@
 -- A fraction divided by the greatest common divisor of its numbers is in lowest terms.
-use Rattle.std.proofs.Common.{◌≡◌, ℕ, zero, suc, Bool, true, false, cond, eqb, ◌∷◌, ◌++◌, ◌^◌, length, decimal, length-append, lt_of_le_of_lt, ◌*◌, ◌/◌, ◌%◌, ◌<◌, ◌≤◌, inl, inr, sym, ap, ap₂, List, ℤ, pos, negsuc, ◌*ℤ◌, ◌<ℤ◌, unsigned_abs, subst, ◌∙◌, arith, refl}
+use Rattle.std.proofs.Common.{◌≡◌, ℕ, ◌+◌, zero, suc, Bool, true, false, cond, eqb, ◌∷◌, ◌++◌, ◌^◌, length, decimal, length-append, lt_of_le_of_lt, ◌*◌, ◌/◌, ◌%◌, ◌<◌, ◌≤◌, inl, inr, sym, ap, ap₂, List, ℤ, pos, negsuc, ◌*ℤ◌, ◌<ℤ◌, unsigned_abs, subst, ◌∙◌, arith, refl}
 use Rattle.std.specs.Int.{IsGcd, ◌∣◌}
 use Rattle.std.proofs.Math.Nat.{one-dvd, pos_of_dvd_of_pos, div-mul_cancel, mul-dvd-mul_right, dvd_of_mul-dvd-mul_right, mul_assoc, mul_comm, mul-div_cancel_left, mul-mod_right, eq_of_mul-eq-mul_right, div-le_self}
 use Rattle.std.proofs.lemmas.Bool.Decides.{eqb_tells}
-use Rattle.std.proofs.lemmas.Fmt.{length-decimal-le}
+use Rattle.std.proofs.lemmas.Fmt.{length-decimal-le_wide}
 use Rattle.std.proofs.lemmas.Nat.Gcd.{IsGcd-from_zero, IsGcd-from_mod, same_from_IsGcd, le_of_dvd, dvd_of_mod-eq-zero, mod-eq-zero_of_dvd}
 use Rattle.std.proofs.lemmas.Int.{ints, unsigned_abs-mul}
 use lib.Arith.{mod-mul}
@@ -143,18 +143,22 @@ one_text (negsuc n) (pos m) (pos (suc d)) (pos (suc e)) pd pe same = absurd (ome
 
 -- ---- lengths
 
-short_number : (n : ℕ) → n < 10 ^ 9 → length (decimal n) ≤ 9
-short_number n h = length-decimal-le 9 n (omega arith) h (omega arith)
+-- a number of at most k digits, in the machine
+abbrev pub HasDigits : ℕ → ℕ → Type 0
+HasDigits k n = (n < 10 ^ k) × (n < 2 ^ 128)
 
-quotient_short : (p q : ℕ) → p < 10 ^ 9 → q < 10 ^ 9 → length (quotient_text p q) ≤ 19
-quotient_short p q hp hq = by (eqb q 1)
-  where
-    by : (b : Bool) → length (cond b (decimal p) (decimal p ++ stroke ∷ decimal q)) ≤ 19
-    by true = omega (arith, short_number p hp)
-    by false = omega (arith, short_number p hp, short_number q hq, length-append (decimal p) (stroke ∷ decimal q))
+decimal_short : (k n : ℕ) → 0 < k → HasDigits k n → length (decimal n) ≤ k
+decimal_short k n some h = length-decimal-le_wide k n some h.0 (omega (arith, h.1))
 
-pub fraction_short : (n d : ℕ) → n < 10 ^ 9 → d < 10 ^ 9 → length (fraction_text n d) ≤ 19
-fraction_short n d hn hd = quotient_short (n / gcd n d) (d / gcd n d) (quotient_below n (gcd n d) hn) (quotient_below d (gcd n d) hd)
+quotient_short : (k l p q : ℕ) → 0 < k → 0 < l → HasDigits k p → HasDigits l q → length (quotient_text p q) ≤ k + 1 + l
+quotient_short k l p q pk pl hp hq = by (eqb q 1)
   where
-    quotient_below : (a g : ℕ) → a < 10 ^ 9 → a / g < 10 ^ 9
-    quotient_below a g h = lt_of_le_of_lt (div-le_self a g) h
+    by : (b : Bool) → length (cond b (decimal p) (decimal p ++ stroke ∷ decimal q)) ≤ k + 1 + l
+    by true = omega (arith, decimal_short k p pk hp)
+    by false = omega (arith, decimal_short k p pk hp, decimal_short l q pl hq, length-append (decimal p) (stroke ∷ decimal q))
+
+quotient_below : (k a g : ℕ) → HasDigits k a → HasDigits k (a / g)
+quotient_below k a g h = (lt_of_le_of_lt (div-le_self a g) h.0, lt_of_le_of_lt (div-le_self a g) h.1)
+
+pub fraction_short : (k l n d : ℕ) → 0 < k → 0 < l → HasDigits k n → HasDigits l d → length (fraction_text n d) ≤ k + 1 + l
+fraction_short k l n d pk pl hn hd = quotient_short k l (n / gcd n d) (d / gcd n d) pk pl (quotient_below k n (gcd n d) hn) (quotient_below l d (gcd n d) hd)

@@ -67,9 +67,9 @@ read_back f narrow =
     let x = part_stays f.t.x parts.x in
     let y = part_stays f.t.y parts.y in
     let z = part_stays f.t.z parts.z in
-    let one = component_text f.w.xx f.w.xy f.w.xz f.t.x in
-    let two = component_text f.w.yx f.w.yy f.w.yz f.t.y in
-    let three = component_text f.w.zx f.w.zy f.w.zz f.t.z in
+    let one = component_text 1 f.w.xx f.w.xy f.w.xz f.t.x in
+    let two = component_text 1 f.w.yx f.w.yy f.w.yz f.t.y in
+    let three = component_text 1 f.w.zx f.w.zy f.w.zz f.t.z in
     ap triplet_of (append_assoc one (comma ∷ two) (comma ∷ three))
     ∙ three_back one two three _ _ _ r.plain s.plain t.plain r.short s.short t.short r.reads s.reads t.reads
     ∙ (λ i. Some (record { w = f.w; t = record { x = x i; y = y i; z = z i } }))

@@ -1,4 +1,4 @@
-ghost use Rattle.std.specs.Prelude.{◌≡◌, pos, ◌<ℤ◌, ◌<◌, ◌≤◌, ◌^◌, length};
+ghost use Rattle.std.specs.Prelude.{◌≡◌, ℕ, ◌+◌, pos, ◌<ℤ◌, ◌<◌, ◌≤◌, ◌^◌, length};
 ghost use Rattle.std.specs.Int.{IsGcd};
 ghost use Rattle.triplet_text.specs.Fractions.{quotient_text, fraction_text, frac_text};
 
@@ -25,7 +25,7 @@ pub fn lowest_terms(n: u128, d: u128) -> Text
     requires { 0 < d }
     ensures text { result ≡ fraction_text n d }
     ensures short { length result ≤ 81 }
-    ensures small { n < 10 ^ 9 → d < 10 ^ 9 → length result ≤ 19 }
+    ensures small { (k l : ℕ) → 0 < k → 0 < l → n < 10 ^ k → d < 10 ^ l → length result ≤ k + 1 + l }
 {
     let g = greatest_common_divisor(n, d);
     quotient(n / g, d / g)

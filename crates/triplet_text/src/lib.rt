@@ -1,6 +1,7 @@
 //! Symmetry operators as text: `x,y+1/2,-z`. The coordinate triplets of International Tables A are read and printed.
 #![tactic(auto)]
 
+mod affine;
 mod component;
 mod coordinate;
 mod fraction;
@@ -14,13 +15,14 @@ mod term;
 mod text;
 mod triplet;
 
+pub use affine::print_affine;
 pub use coordinate::{
     COORDINATE_LENGTH, DECIMALS_LIMIT, DENOMINATOR_LIMIT, NUMERATOR_LIMIT, read_coord,
 };
 pub use fraction::print_frac;
 pub use laws::{coordinate_is_unique, equal_fractions_have_one_text, triplet_is_unique};
 pub use lines::{LineFault, read_lines};
-pub use printing::print_triplet;
+pub use printing::{OVER_LIMIT, PARTS_LIMIT, print_triplet};
 pub use text::Text;
 pub use triplet::read_triplet;
 

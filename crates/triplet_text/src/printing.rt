@@ -1,12 +1,17 @@
-ghost use Rattle.std.specs.Prelude.{◌≡◌, ◌≤◌, length, unsigned_abs};
-ghost use Rattle.exact_ops.specs.Operator.{IsPart, AreWithin};
-ghost use Rattle.triplet_text.specs.Printing.{coefficient_text, constant_text, terms_text, component_text, operator_text};
+ghost use Rattle.std.specs.Prelude.{◌≡◌, ◌<◌, ◌≤◌, ◌+◌, ◌*◌, length, unsigned_abs};
+ghost use Rattle.exact_ops.specs.Operator.{AreWithin};
+ghost use Rattle.triplet_text.specs.Printing.{coefficient_text, constant_text, terms_text, component_text, with_commas as commas_between, operator_text};
 ghost use Rattle.triplet_text.specs.Grammar.{IsTriplet};
 
-use crate::fraction::lowest_terms;
+use crate::fraction::{lowest_terms, print_frac};
 use crate::text::Text;
 use exact_ops::{Op, UNIT};
-use itoa::Buffer;
+
+/// The numbers of a map are printed over at most this.
+pub const OVER_LIMIT: u32 = 192;
+
+/// A constant of so many parts can be printed, on both sides of 0.
+pub const PARTS_LIMIT: u64 = 130_000_000_000;
 
 /// The triplet of an operator, with a reduced fraction for each number of its translation that is not 0.
 pub fn print_triplet(op: &Op) -> Text
@@ -16,46 +21,64 @@ pub fn print_triplet(op: &Op) -> Text
 {
     let w = op.w();
     let t = op.t();
-    let mut text = component(w[0], w[1], w[2], t[0]);
+    let x = component(1, w[0], w[1], w[2], i64::from(t[0]));
+    let y = component(1, w[3], w[4], w[5], i64::from(t[1]));
+    let z = component(1, w[6], w[7], w[8], i64::from(t[2]));
+    with_commas(&x, &y, &z)
+}
+
+pub fn with_commas(x: &Text, y: &Text, z: &Text) -> Text
+    requires { length x.now + length y.now + length z.now ≤ 158 }
+    ensures { result ≡ commas_between x.now y.now z.now }
+{
+    let mut text = Text::new();
+    text.push(x.bytes());
     text.push(b",");
-    text.push(component(w[3], w[4], w[5], t[1]).bytes());
+    text.push(y.bytes());
     text.push(b",");
-    text.push(component(w[6], w[7], w[8], t[2]).bytes());
+    text.push(z.bytes());
     text
 }
 
-fn component(x: i32, y: i32, z: i32, parts: i32) -> Text
-    requires narrow { AreWithin 2 x y z }
-    requires part { IsPart UNIT parts }
-    ensures text { result ≡ component_text x y z parts }
-    ensures short { length result ≤ 50 }
+/// Coefficients over `over`, and a constant over `UNIT` times `over`.
+pub fn component(over: u32, x: i32, y: i32, z: i32, parts: i64) -> Text
+    requires positive { 0 < over }
+    requires over { over ≤ OVER_LIMIT }
+    requires narrow { AreWithin (2 * over) x y z }
+    requires parts { unsigned_abs parts ≤ PARTS_LIMIT }
+    ensures text { result ≡ component_text over x y z parts }
+    ensures short { length result ≤ 52 }
 {
-    let mut text = terms(x, y, z, parts);
+    let mut text = terms(over, x, y, z, parts);
     if text.bytes().is_empty() {
         text.push(b"0");
     }
     text
 }
 
-fn terms(x: i32, y: i32, z: i32, parts: i32) -> Text
-    requires narrow { AreWithin 2 x y z }
-    requires part { IsPart UNIT parts }
-    ensures text { result ≡ terms_text x y z parts }
-    ensures short { length result ≤ 40 }
+fn terms(over: u32, x: i32, y: i32, z: i32, parts: i64) -> Text
+    requires positive { 0 < over }
+    requires over { over ≤ OVER_LIMIT }
+    requires narrow { AreWithin (2 * over) x y z }
+    requires parts { unsigned_abs parts ≤ PARTS_LIMIT }
+    ensures text { result ≡ terms_text over x y z parts }
+    ensures short { length result ≤ 52 }
 {
     let mut text = Text::new();
-    text.join(coefficient(x, b'x').bytes());
-    text.join(coefficient(y, b'y').bytes());
-    text.join(coefficient(z, b'z').bytes());
-    text.join(constant(parts).bytes());
+    text.join(coefficient(over, x, b'x').bytes());
+    text.join(coefficient(over, y, b'y').bytes());
+    text.join(coefficient(over, z, b'z').bytes());
+    text.join(constant(UNIT * over, parts).bytes());
     text
 }
 
-/// So many times a letter; nothing for none.
-fn coefficient(n: i32, letter: u8) -> Text
-    requires { unsigned_abs n ≤ 2 }
-    ensures text { result ≡ coefficient_text n letter }
-    ensures short { length result ≤ 4 }
+/// n / `over` times a letter; nothing for none.
+fn coefficient(over: u32, n: i32, letter: u8) -> Text
+    requires positive { 0 < over }
+    requires over { over ≤ OVER_LIMIT }
+    requires narrow { unsigned_abs n ≤ 2 * over }
+    ensures text { result ≡ coefficient_text over n letter }
+    ensures short { length result ≤ 10 }
 {
     let mut text = Text::new();
     if n == 0 {
@@ -65,23 +88,24 @@ fn coefficient(n: i32, letter: u8) -> Text
         text.push(b"-");
     }
     let size = n.unsigned_abs();
-    if size != 1 {
-        let mut buffer = Buffer::new();
-        text.push(buffer.format(size).as_bytes());
+    if size != over {
+        text.push(lowest_terms(u128::from(size), u128::from(over)).bytes());
         text.push(b"*");
     }
     text.push(&[letter]);
     text
 }
 
-/// Parts of a cell as a fraction of it; nothing for none.
-fn constant(parts: i32) -> Text
-    requires { IsPart UNIT parts }
-    ensures text { result ≡ constant_text parts }
-    ensures short { length result ≤ 21 }
+/// The fraction n / d; nothing for none.
+fn constant(d: u32, n: i64) -> Text
+    requires positive { 0 < d }
+    requires over { d ≤ UNIT * OVER_LIMIT }
+    requires parts { unsigned_abs n ≤ PARTS_LIMIT }
+    ensures text { result ≡ constant_text d n }
+    ensures short { length result ≤ 18 }
 {
-    if parts == 0 {
+    if n == 0 {
         return Text::new();
     }
-    lowest_terms(parts as u128, u128::from(UNIT))
+    print_frac(i128::from(n), i128::from(d))
 }

@@ -1,12 +1,10 @@
-use Rattle.std.proofs.Common.{◌≡◌, ◌≤◌, length, arith, decimal, to_z, of_z, w32}
-use Rattle.std.proofs.lemmas.Int.{ints}
+use Rattle.std.proofs.Common.{rules, length, ◌≤◌, List, ℕ, sym, subst, arith}
 use Rattle.std.proofs.lemmas.Grind.{common_steps}
-use Rattle.std.proofs.lemmas.Fmt.{length-decimal-le}
+use Rattle.triplet_text.proofs.Printed.{coefficient_short}
 use Rattle.triplet_text.proofs.printing.coefficient.Goals as goal
 
+pub returns-clause-text : goal.returns-clause-text
+returns-clause-text c = first_of (search rules, grind (arith, common_steps))
+
 pub returns-clause-short : goal.returns-clause-short
-returns-clause-short c =
-    let e : to_z w32 (of_z w32 c.args.n) ≡ c.args.n = omega (arith, ints) in
-    let small : c.unsigned_abs-size.result ≤ 2 = rw c.unsigned_abs-size.ensures.value (rw e c.requires) in
-    let d : length (decimal c.unsigned_abs-size.result) ≤ 1 = length-decimal-le 1 c.unsigned_abs-size.result (omega arith) (omega arith) (omega arith) in
-    grind (arith, common_steps)
+returns-clause-short c = subst (λ (t : List ℕ). length t ≤ 10) (sym (returns-clause-text c)) (coefficient_short c.args.over c.args.n c.args.letter c.requires.over c.requires.narrow)
