@@ -17,5 +17,7 @@ mod Rows
 mod CoordinateLaw
 pub mod LowestTerms
 mod Printed
+mod SignedTerms
+mod AffineLaw
 mod LineSteps
 pub mod LineLaws

@@ -56,16 +56,21 @@ coprime a b g n d some en ed h = (
 cross : (a b g n d : ℕ) → a * g ≡ n → b * g ≡ d → a * d ≡ n * b
 cross a b g n d en ed = rw (← en, ← ed) (sym (mul_assoc a b g) ∙ ap (λ (m : ℕ). m * g) (mul_comm a b) ∙ mul_assoc b a g ∙ mul_comm b (a * g))
 
+pos_of_mul_pos : (a b : ℕ) → 0 < a * b → 0 < a
+pos_of_mul_pos zero b l = absurd (omega arith)
+pos_of_mul_pos (suc a) b l = omega arith
+
 -- p over q is n over d in lowest terms
 pub record IsLowest (n d p q : ℕ) : Type 0 where
   pub coprime : IsGcd p q 1
   pub same : p * d ≡ n * q
+  pub positive : 0 < q
 
 lowest_by : (n d g : ℕ) → 0 < d → IsGcd n d g → IsLowest n d (n / g) (d / g)
 lowest_by n d g some h =
     let en : n / g * g ≡ n = div-mul_cancel g h.0 in
     let ed : d / g * g ≡ d = div-mul_cancel g h.1 in
-    record { coprime = coprime (n / g) (d / g) g n d (positive n d g some h) en ed h; same = cross (n / g) (d / g) g n d en ed }
+    record { coprime = coprime (n / g) (d / g) g n d (positive n d g some h) en ed h; same = cross (n / g) (d / g) g n d en ed; positive = pos_of_mul_pos (d / g) g (rw ed some) }
 
 pub is_lowest : (n d : ℕ) → 0 < d → IsLowest n d (n / gcd n d) (d / gcd n d)
 is_lowest n d some =
@@ -90,10 +95,6 @@ scaled_gcd (suc fuel) k n (suc d) some le g h =
     let less : n % suc d ≤ fuel = omega arith in
     let step = scaled_gcd fuel k (suc d) (n % suc d) some less r.0 r.1 in
     subst (λ (m : ℕ). IsGcd (k * n) (k * suc d) (k * m)) same (IsGcd-from_mod (k * n) (k * suc d) (k * r.0) (subst (λ (m : ℕ). IsGcd (k * suc d) m (k * r.0)) (sym (mod_scaled k n (suc d) some (omega arith))) step))
-
-pos_of_mul_pos : (a b : ℕ) → 0 < a * b → 0 < a
-pos_of_mul_pos zero b l = absurd (omega arith)
-pos_of_mul_pos (suc a) b l = omega arith
 
 -- equal parts are left over where two quotients differ by common factors alone
 left_over : (p q p' q' g h : ℕ) → 0 < g → 0 < h → 0 < q → q' * h * g ≡ q * g * h → p * g * (q' * h) ≡ p' * h * (q * g) → (p ≡ p') × (q ≡ q')
@@ -125,7 +126,7 @@ one_value n d m e pd pe same =
     let sq : 0 < q = pos_of_mul_pos q r.0 (rw eq pd) in
     rw (gr, gs) (left_over (n / r.0) q (m / s.0) q' r.0 s.0 pr ps sq (rw (eq, eq') both) (rw (ep, ep', eq, eq') same))
 
-same_text : (n d m e : ℕ) → 0 < d → 0 < e → n * e ≡ m * d → fraction_text n d ≡ fraction_text m e
+pub same_text : (n d m e : ℕ) → 0 < d → 0 < e → n * e ≡ m * d → fraction_text n d ≡ fraction_text m e
 same_text n d m e pd pe same = let v = one_value n d m e pd pe same in ap₂ quotient_text v.0 v.1
 
 sizes : (n m d e : ℤ) → n *ℤ e ≡ m *ℤ d → unsigned_abs n * unsigned_abs e ≡ unsigned_abs m * unsigned_abs d

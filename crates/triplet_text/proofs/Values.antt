@@ -42,7 +42,7 @@ value_joined (byte ∷ front) back =
     let k : 10 ^ length (front ++ back) ≡ 10 ^ length front * 10 ^ length back = ap (λ (n : ℕ). 10 ^ n) (length-append front back) ∙ pow-add 10 (length front) (length back) in
     omega (arith, ap (λ (p : ℕ). (byte - zero_digit) * p) k, value_joined front back)
 
-own : IsNumeralModel (Each is_digit) value_of
+pub own : IsNumeralModel (Each is_digit) value_of
 own = numerals_by_weight (Each is_digit) (record { empty = tt; parts = λ c cs h. (digit_range c h.0, h.1); more = λ c cs k h. (range_digit c k.0 k.1, h) }) value_of (record { empty = refl; more = λ c cs k. refl })
   where
     digit_range : (c : ℕ) → is_digit c ≡ true → (48 ≤ c) × (c ≤ 57)

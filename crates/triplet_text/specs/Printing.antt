@@ -1,25 +1,29 @@
 -- The text of an affine map, and of an operator: three components with commas between them.
-use Rattle.std.specs.Prelude.{◌==◌, if◌then◌else◌, ℕ, zero, suc, ◌*◌, ℤ, pos, negsuc, List, [], ◌∷◌, ◌++◌, fold}
-use Rattle.exact_ops.specs.Operator.{Operator}
+use Rattle.std.specs.Prelude.{◌≡◌, ◌<◌, ◌≤◌, ◌==◌, if◌then◌else◌, ℕ, zero, suc, ◌*◌, ℤ, pos, negsuc, List, [], ◌∷◌, ◌++◌, fold}
+use Rattle.exact_ops.specs.Matrix.{scaled, times}
+use Rattle.exact_ops.specs.Operator.{Operator, HasEntriesWithin, AreWithin}
 use Rattle.exact_ops.specs.declared.TheConstants.{UNIT}
+use Rattle.triplet_text.specs.declared.printing.TheConstants.{OVER_LIMIT, PARTS_LIMIT}
 use Rattle.triplet_text.specs.Bytes.{star, plus_sign, minus_sign, comma, zero_digit}
 use Rattle.triplet_text.specs.Fractions.{fraction_text}
 
--- n over d times a letter: the letter alone where n over d is 1
+-- n over d times a letter, where n is not 0: the letter alone where n over d is 1
 abbrev pub multiple_text : ℕ → ℕ → ℕ → List ℕ
 multiple_text n d letter = if n == d then letter ∷ [] else fraction_text n d ++ star ∷ letter ∷ []
 
--- with a minus before a negative one, and nothing where n is 0
-abbrev pub coefficient_text : ℕ → ℤ → ℕ → List ℕ
-coefficient_text d (pos zero) letter = []
-coefficient_text d (pos (suc n)) letter = multiple_text (suc n) d letter
-coefficient_text d (negsuc n) letter = minus_sign ∷ multiple_text (suc n) d letter
+-- the text of a number by that of its size, with a minus before a negative one, and nothing for 0
+abbrev pub signed_text : (ℕ → List ℕ) → ℤ → List ℕ
+signed_text size (pos zero) = []
+signed_text size (pos (suc n)) = size (suc n)
+signed_text size (negsuc n) = minus_sign ∷ size (suc n)
 
--- the fraction n over d, and nothing where n is 0
+-- n over d times a letter
+abbrev pub coefficient_text : ℕ → ℤ → ℕ → List ℕ
+coefficient_text d n letter = signed_text (λ size. multiple_text size d letter) n
+
+-- the fraction n over d
 abbrev pub constant_text : ℕ → ℤ → List ℕ
-constant_text d (pos zero) = []
-constant_text d (pos (suc n)) = fraction_text (suc n) d
-constant_text d (negsuc n) = minus_sign ∷ fraction_text (suc n) d
+constant_text d n = signed_text (λ size. fraction_text size d) n
 
 -- one more term, with a plus before it unless it is the first or begins with a minus
 abbrev pub joined : List ℕ → List ℕ → List ℕ
@@ -42,9 +46,21 @@ component_text d x y z parts = or_zero (terms_text d x y z parts)
 abbrev pub with_commas : List ℕ → List ℕ → List ℕ → List ℕ
 with_commas a b c = a ++ comma ∷ b ++ comma ∷ c
 
--- a matrix over d, and a translation over UNIT * d
+-- the map with the matrix f.w over d, and the translation f.t over UNIT * d
 abbrev pub affine_text : ℕ → Operator → List ℕ
 affine_text d f = with_commas (component_text d f.w.xx f.w.xy f.w.xz f.t.x) (component_text d f.w.yx f.w.yy f.w.yz f.t.y) (component_text d f.w.zx f.w.zy f.w.zz f.t.z)
+
+-- the maps that can be printed: over at most OVER_LIMIT, with entries from -2 to 2, and with at most PARTS_LIMIT parts on both sides of 0
+pub record IsPrintable (d : ℕ) (f : Operator) : Type 0 where
+  pub positive : 0 < d
+  pub over : d ≤ OVER_LIMIT
+  pub narrow : HasEntriesWithin (2 * d) f.w
+  pub parts : AreWithin PARTS_LIMIT f.t.x f.t.y f.t.z
+
+-- f over d and g over e are one map: the entries and the parts have equal cross products
+pub record IsSameMap (d : ℕ) (f : Operator) (e : ℕ) (g : Operator) : Type 0 where
+  pub matrix : scaled (pos e) f.w ≡ scaled (pos d) g.w
+  pub translation : times (pos e) f.t ≡ times (pos d) g.t
 
 abbrev pub operator_text : Operator → List ℕ
 operator_text f = affine_text 1 f

@@ -1,19 +1,15 @@
-ghost use Rattle.std.specs.Prelude.{◌≡◌, ◌*◌, ◌≤ℤ◌, pos, unsigned_abs};
-ghost use Rattle.exact_ops.specs.Matrix.{matrix_of, column_of};
-ghost use Rattle.exact_ops.specs.Operator.{AreWithin, HasEntriesWithin};
+ghost use Rattle.std.specs.Prelude.{◌≡◌, ◌≤ℤ◌, pos, unsigned_abs};
 ghost use Rattle.exact_ops.specs.Raw.{numbers_of};
-ghost use Rattle.triplet_text.specs.Printing.{affine_text};
+ghost use Rattle.triplet_text.specs.Printing.{affine_text, IsPrintable};
 
-use crate::printing::{OVER_LIMIT, PARTS_LIMIT, component, with_commas};
+use crate::printing::{component, with_commas};
 use crate::text::Text;
 
 /// The affine map with the matrix m / `over`, row by row, and the translation t / (`UNIT` `over`), such as
 /// `1/2*x+1/2*y,-z,1/4`. Each number is a reduced fraction.
 pub fn print_affine(m: &[i32; 9], over: i32, t: &[i64; 3]) -> Text
     requires positive { pos 1 ≤ℤ over }
-    requires over { over ≤ℤ pos OVER_LIMIT }
-    requires narrow { HasEntriesWithin (2 * unsigned_abs over) (matrix_of m.now) }
-    requires parts { AreWithin PARTS_LIMIT (column_of t.now).x (column_of t.now).y (column_of t.now).z }
+    requires printable { IsPrintable (unsigned_abs over) (numbers_of m.now t.now) }
     ensures { result ≡ affine_text (unsigned_abs over) (numbers_of m.now t.now) }
 {
     let d = over.unsigned_abs();

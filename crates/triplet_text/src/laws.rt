@@ -3,6 +3,7 @@ ghost use Rattle.exact_ops.specs.Operator.{Operator};
 ghost use Rattle.triplet_text.specs.Grammar.{IsTriplet};
 ghost use Rattle.triplet_text.specs.Coordinates.{IsCoordinate};
 ghost use Rattle.triplet_text.specs.Fractions.{frac_text};
+ghost use Rattle.triplet_text.specs.Printing.{affine_text, IsPrintable, IsSameMap};
 
 /// A line is a triplet of one operator at most.
 pub fn triplet_is_unique()
@@ -17,4 +18,9 @@ pub fn coordinate_is_unique()
 /// Fractions with one value have one text.
 pub fn equal_fractions_have_one_text()
     ensures { (n m d e : ℤ) → pos 0 <ℤ d → pos 0 <ℤ e → n *ℤ e ≡ m *ℤ d → frac_text n d ≡ frac_text m e }
+{}
+
+/// Affine maps with one text have equal numbers.
+pub fn affine_text_has_one_map()
+    ensures { (d e : ℕ) (f g : Operator) → IsPrintable d f → IsPrintable e g → affine_text d f ≡ affine_text e g → IsSameMap d f e g }
 {}

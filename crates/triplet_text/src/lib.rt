@@ -20,7 +20,9 @@ pub use coordinate::{
     COORDINATE_LENGTH, DECIMALS_LIMIT, DENOMINATOR_LIMIT, NUMERATOR_LIMIT, read_coord,
 };
 pub use fraction::print_frac;
-pub use laws::{coordinate_is_unique, equal_fractions_have_one_text, triplet_is_unique};
+pub use laws::{
+    affine_text_has_one_map, coordinate_is_unique, equal_fractions_have_one_text, triplet_is_unique,
+};
 pub use lines::{LineFault, read_lines};
 pub use printing::{OVER_LIMIT, PARTS_LIMIT, print_triplet};
 pub use text::Text;

@@ -1,0 +1,5 @@
+use Rattle.triplet_text.proofs.AffineLaw.{one_map}
+use Rattle.triplet_text.proofs.laws.affine_text_has_one_map.Goals as goal
+
+pub returns : goal.returns
+returns c = one_map
