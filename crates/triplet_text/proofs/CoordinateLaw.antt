@@ -7,7 +7,8 @@ use Rattle.std.proofs.lemmas.Bool.{lt-ltb, le-leb}
 use Rattle.std.proofs.lemmas.Bool.Decides.{nat_tests}
 use Rattle.std.proofs.lemmas.Int.{ints, to_z-of_z}
 use borrow.Author.Tests.{ltb-true, leb-true, eqb-true}
-use Rattle.triplet_text.specs.declared.coordinate.TheConstants.{COORDINATE_LENGTH, DECIMALS_LIMIT, NUMERATOR_LIMIT, DENOMINATOR_LIMIT}
+use Rattle.triplet_text.specs.declared.coordinate.TheConstants.{COORDINATE_LENGTH, DECIMALS_LIMIT}
+use Rattle.exact_ops.specs.declared.TheConstants.{MAX_COORDINATE, MAX_DENOMINATOR}
 use Rattle.triplet_text.specs.Bytes.{stroke, point, plus_sign, minus_sign}
 use Rattle.triplet_text.specs.Components.{Within}
 use Rattle.triplet_text.specs.Digits.{with_digits}
@@ -35,18 +36,18 @@ number_from run n e =
 
 -- both numbers are in range
 record AreInRange (n d : ℕ) : Type 0 where
-  numerator : n ≤ NUMERATOR_LIMIT
+  numerator : n ≤ MAX_COORDINATE
   positive : 0 < d
-  denominator : d ≤ DENOMINATOR_LIMIT
+  denominator : d ≤ MAX_DENOMINATOR
 
 ratio_to : (n d : ℕ) → AreInRange n d → ratio_of n d ≡ Some (pos n, pos d)
-ratio_to n d h = rw (le-leb n NUMERATOR_LIMIT h.numerator, lt-ltb 0 d h.positive, le-leb d DENOMINATOR_LIMIT h.denominator) refl
+ratio_to n d h = rw (le-leb n MAX_COORDINATE h.numerator, lt-ltb 0 d h.positive, le-leb d MAX_DENOMINATOR h.denominator) refl
 
 ratio_from : (n d : ℕ) (c : ℤ × ℤ) → ratio_of n d ≡ Some c → AreInRange n d × ((pos n, pos d) ≡ c)
 ratio_from n d c e =
-    let h = if_some (leb n NUMERATOR_LIMIT && ltb 0 d && leb d DENOMINATOR_LIMIT) (Some (pos n, pos d)) c e in
-    let k = both (leb n NUMERATOR_LIMIT && ltb 0 d) (leb d DENOMINATOR_LIMIT) h.0 in
-    let l = both (leb n NUMERATOR_LIMIT) (ltb 0 d) k.0 in
+    let h = if_some (leb n MAX_COORDINATE && ltb 0 d && leb d MAX_DENOMINATOR) (Some (pos n, pos d)) c e in
+    let k = both (leb n MAX_COORDINATE && ltb 0 d) (leb d MAX_DENOMINATOR) h.0 in
+    let l = both (leb n MAX_COORDINATE) (ltb 0 d) k.0 in
     (record { numerator = leb-true _ _ l.0; positive = ltb-true _ _ l.1; denominator = leb-true _ _ k.1 }, cc (h.1))
 
 -- ---- sizes
@@ -170,7 +171,7 @@ no_plus byte h = grind (arith, nat_tests)
 bare_is : (text : List ℕ) → BeginsNumber text → signed_of text ≡ size_of text
 bare_is text b = rw b.cut (rw (no_minus b.byte b.begins, no_plus b.byte b.begins) refl)
 
-signed_to : {text : List ℕ} {n d : ℤ} → IsSigned text n d → Within NUMERATOR_LIMIT n → pos 1 ≤ℤ d → d ≤ℤ pos DENOMINATOR_LIMIT → signed_of text ≡ Some (n, d)
+signed_to : {text : List ℕ} {n d : ℤ} → IsSigned text n d → Within MAX_COORDINATE n → pos 1 ≤ℤ d → d ≤ℤ pos MAX_DENOMINATOR → signed_of text ≡ Some (n, d)
 signed_to (bare {text = text} {n = n} {d = d} s) small some few =
     bare_is text (size_begins s) ∙ size_to s (record { numerator = omega (arith, ints); positive = omega (arith, ints); denominator = omega (arith, ints) })
 signed_to (plus s) small some few = size_to s (record { numerator = omega (arith, ints); positive = omega (arith, ints); denominator = omega (arith, ints) })
@@ -233,7 +234,7 @@ one_coordinate text n d m e p q =
     (ap (λ (c : ℤ × ℤ). c.0) same, ap (λ (c : ℤ × ℤ). c.1) same)
 
 -- behind a minus sign
-pub minus_first : (text : List ℕ) (n d : ℤ) → 1 ≤ length text → get_or text 0 0 ≡ minus_sign → Some (n, d) ≡ size_of (take (length text - 1) (drop 1 text)) → Within NUMERATOR_LIMIT n → FitsSigned w64 d
+pub minus_first : (text : List ℕ) (n d : ℤ) → 1 ≤ length text → get_or text 0 0 ≡ minus_sign → Some (n, d) ≡ size_of (take (length text - 1) (drop 1 text)) → Within MAX_COORDINATE n → FitsSigned w64 d
     → Some (to_z w64 (of_z w64 (pos 0 -ℤ to_z w64 (of_z w64 n))), to_z w64 (of_z w64 d)) ≡ signed_of text
 minus_first [] n d some is e small fits = absurd (omega arith)
 minus_first (byte ∷ text) n d some is e small fits =

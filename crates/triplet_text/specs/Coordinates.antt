@@ -1,7 +1,8 @@
 -- The coordinate grammar: which texts are coordinates, and their numerators and denominators. Then how they are found.
 use Rattle.std.specs.Prelude.{◌==◌, ◌&&◌, if◌then◌else◌, ◌<◌, ◌≤◌, ℕ, ◌+◌, ◌^◌, ℤ, pos, neg_ℤ, ◌≤ℤ◌, List, [], ◌∷◌, ◌++◌, length, Option, Some, None, option_and_then, nat_lt, nat_le}
 use Rattle.std.specs.Option.{option_map}
-use Rattle.triplet_text.specs.declared.coordinate.TheConstants.{COORDINATE_LENGTH, DECIMALS_LIMIT, NUMERATOR_LIMIT, DENOMINATOR_LIMIT}
+use Rattle.triplet_text.specs.declared.coordinate.TheConstants.{COORDINATE_LENGTH, DECIMALS_LIMIT}
+use Rattle.exact_ops.specs.declared.TheConstants.{MAX_COORDINATE, MAX_DENOMINATOR}
 use Rattle.triplet_text.specs.Bytes.{is_digit, stroke, point, plus_sign, minus_sign}
 use Rattle.triplet_text.specs.Components.{Within}
 use Rattle.triplet_text.specs.Digits.{with_digits}
@@ -30,9 +31,9 @@ pub data IsSigned : List ℕ → ℤ → ℤ → Type 0 where
 pub record IsCoordinate (text : List ℕ) (n d : ℤ) : Type 0 where
   pub short : length text ≤ COORDINATE_LENGTH
   pub signed : IsSigned text n d
-  pub numerator : Within NUMERATOR_LIMIT n
+  pub numerator : Within MAX_COORDINATE n
   pub positive : pos 1 ≤ℤ d
-  pub denominator : d ≤ℤ pos DENOMINATOR_LIMIT
+  pub denominator : d ≤ℤ pos MAX_DENOMINATOR
 
 -- ---- how a coordinate is found
 
@@ -41,7 +42,7 @@ number_of text = if nat_lt 0 (length text) then with_digits 0 text else None
 
 -- two numbers that are in range
 abbrev pub ratio_of : ℕ → ℕ → Option (ℤ × ℤ)
-ratio_of n d = if nat_le n NUMERATOR_LIMIT && nat_lt 0 d && nat_le d DENOMINATOR_LIMIT then Some (pos n, pos d) else None
+ratio_of n d = if nat_le n MAX_COORDINATE && nat_lt 0 d && nat_le d MAX_DENOMINATOR then Some (pos n, pos d) else None
 
 -- by what stands before and after a point
 abbrev pub decimal_size_of : List ℕ → List ℕ → Option (ℤ × ℤ)

@@ -2,6 +2,7 @@
 use Rattle.std.specs.Prelude.{◌≡◌, ◌<◌, ◌≤◌, ◌==◌, if◌then◌else◌, ℕ, zero, suc, ◌*◌, ℤ, pos, negsuc, List, [], ◌∷◌, ◌++◌, fold}
 use Rattle.exact_ops.specs.Matrix.{scaled, times}
 use Rattle.exact_ops.specs.Operator.{Operator, HasEntriesWithin, AreWithin}
+use Rattle.exact_ops.specs.Map.{Map}
 use Rattle.exact_ops.specs.declared.TheConstants.{UNIT}
 use Rattle.triplet_text.specs.declared.printing.TheConstants.{OVER_LIMIT, PARTS_LIMIT}
 use Rattle.triplet_text.specs.Bytes.{star, plus_sign, minus_sign, comma, zero_digit}
@@ -64,3 +65,7 @@ pub record IsSameMap (d : ℕ) (f : Operator) (e : ℕ) (g : Operator) : Type 0 
 
 abbrev pub operator_text : Operator → List ℕ
 operator_text f = affine_text 1 f
+
+-- the translation of the map with its whole shifts
+abbrev pub map_text : Map → List ℕ
+map_text g = affine_text 1 (record { w = g.w; t = g.s })

@@ -1,21 +1,17 @@
 ghost use Rattle.std.specs.Prelude.{◌≡◌, ◌↔◌, ◌≤◌, ◌+◌, ℤ, length, IsSome, IfSome};
+ghost use Rattle.exact_ops.specs.declared.TheConstants.{MAX_COORDINATE as NUMERATORS};
 ghost use Rattle.triplet_text.specs.Components.{Within};
 ghost use Rattle.triplet_text.specs.Coordinates.{number_of, ratio_of, decimal_size_of, size_of, signed_of, IsCoordinate};
 
 use crate::number::digits_behind;
 use crate::pieces::cut_at;
+use exact_ops::{MAX_COORDINATE, MAX_DENOMINATOR};
 
 /// A coordinate has at most so many bytes.
 pub const COORDINATE_LENGTH: usize = 32;
 
 /// A coordinate has at most so many digits after its point.
 pub const DECIMALS_LIMIT: usize = 6;
-
-/// The numerator of a coordinate is within this, on both sides of 0.
-pub const NUMERATOR_LIMIT: u32 = 1_000_000_000;
-
-/// The denominator of a coordinate is at most this.
-pub const DENOMINATOR_LIMIT: u32 = 1_000_000;
 
 /// The numerator and the denominator that a coordinate is written with, such as `-7/2` or `0.25`, which is 25 over 100:
 /// None exactly where the text is no coordinate. A coordinate has a sign or none before a whole number, two whole
@@ -48,7 +44,7 @@ fn signed(text: &[u8]) -> Option<(i64, i64)>
 fn size(text: &[u8]) -> Option<(i64, i64)>
     requires { length text.now ≤ COORDINATE_LENGTH }
     ensures value { result ≡ size_of text.now }
-    ensures small { IfSome result (λ c. Within NUMERATOR_LIMIT c.0) }
+    ensures small { IfSome result (λ c. Within NUMERATORS c.0) }
 {
     if let Some((over, under)) = cut_at(text, b'/') {
         return ratio(number(over)?, number(under)?);
@@ -74,7 +70,7 @@ fn number(text: &[u8]) -> Option<u128>
 fn decimal_size(front: &[u8], back: &[u8]) -> Option<(i64, i64)>
     requires { length front.now + length back.now ≤ COORDINATE_LENGTH }
     ensures value { result ≡ decimal_size_of front.now back.now }
-    ensures small { IfSome result (λ c. Within NUMERATOR_LIMIT c.0) }
+    ensures small { IfSome result (λ c. Within NUMERATORS c.0) }
 {
     if back.len() > DECIMALS_LIMIT || front.is_empty() && back.is_empty() {
         return None;
@@ -87,9 +83,9 @@ fn decimal_size(front: &[u8], back: &[u8]) -> Option<(i64, i64)>
 /// Two numbers that are in range.
 fn ratio(n: u128, d: u128) -> Option<(i64, i64)>
     ensures value { result ≡ ratio_of n d }
-    ensures small { IfSome result (λ c. Within NUMERATOR_LIMIT c.0) }
+    ensures small { IfSome result (λ c. Within NUMERATORS c.0) }
 {
-    if n > u128::from(NUMERATOR_LIMIT) || d == 0 || d > u128::from(DENOMINATOR_LIMIT) {
+    if n > u128::from(MAX_COORDINATE) || d == 0 || d > u128::from(MAX_DENOMINATOR) {
         return None;
     }
     Some((n as i64, d as i64))

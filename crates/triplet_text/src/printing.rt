@@ -1,11 +1,13 @@
-ghost use Rattle.std.specs.Prelude.{◌≡◌, ◌<◌, ◌≤◌, ◌+◌, ◌*◌, length, unsigned_abs};
-ghost use Rattle.exact_ops.specs.Operator.{AreWithin};
-ghost use Rattle.triplet_text.specs.Printing.{coefficient_text, constant_text, terms_text, component_text, with_commas as commas_between, operator_text};
+ghost use Rattle.std.specs.Prelude.{◌≡◌, ◌<◌, ◌≤◌, ◌+◌, ◌*◌, pos, ◌+ℤ◌, ◌*ℤ◌, length, unsigned_abs};
+ghost use Rattle.exact_ops.specs.Operator.{IsPart, AreWithin};
+ghost use Rattle.exact_ops.specs.Elements.{map_in};
+ghost use Rattle.exact_ops.specs.declared.TheConstants.{UNIT as PARTS, MAX_SHIFT};
+ghost use Rattle.triplet_text.specs.Printing.{coefficient_text, constant_text, terms_text, component_text, with_commas as commas_between, operator_text, map_text};
 ghost use Rattle.triplet_text.specs.Grammar.{IsTriplet};
 
 use crate::fraction::{lowest_terms, print_frac};
 use crate::text::Text;
-use exact_ops::{Op, UNIT};
+use exact_ops::{Move, Op, UNIT};
 
 /// The numbers of a map are printed over at most this.
 pub const OVER_LIMIT: u32 = 192;
@@ -25,6 +27,29 @@ pub fn print_triplet(op: &Op) -> Text
     let y = component(1, w[3], w[4], w[5], i64::from(t[1]));
     let z = component(1, w[6], w[7], w[8], i64::from(t[2]));
     with_commas(&x, &y, &z)
+}
+
+/// The map of an element of the space group, such as `-x+1,y+1/2,-z`: its translation is that of the operator and the
+/// whole shifts.
+pub fn print_move(m: &Move) -> Text
+    ensures { result ≡ map_text (map_in m.now) }
+{
+    let w = m.op.w();
+    let t = m.op.t();
+    let x = component(1, w[0], w[1], w[2], parts(t[0], m.shift[0]));
+    let y = component(1, w[3], w[4], w[5], parts(t[1], m.shift[1]));
+    let z = component(1, w[6], w[7], w[8], parts(t[2], m.shift[2]));
+    with_commas(&x, &y, &z)
+}
+
+/// Parts of a cell, and whole cells.
+fn parts(t: i32, shift: i64) -> i64
+    requires part { IsPart PARTS t }
+    requires shift { unsigned_abs shift ≤ MAX_SHIFT }
+    ensures value { result ≡ t +ℤ pos PARTS *ℤ shift }
+    ensures size { unsigned_abs result ≤ PARTS_LIMIT }
+{
+    i64::from(t) + i64::from(UNIT) * shift
 }
 
 pub fn with_commas(x: &Text, y: &Text, z: &Text) -> Text

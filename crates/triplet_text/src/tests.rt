@@ -1,5 +1,5 @@
 use super::*;
-use exact_ops::{Op, Raw, UNIT};
+use exact_ops::{MAX_SHIFT, Move, Op, Raw, UNIT};
 use std::test::Fail;
 
 // The tests count in twelfths of a cell.
@@ -223,4 +223,45 @@ fn prints_affine_maps(rt: HostRuntime) {
             "{want}"
         );
     }
+}
+
+fn element_of(op: Op, [x, y, z]: [i64; 3]) -> Option<Move> {
+    if x.unsigned_abs() > MAX_SHIFT
+        || y.unsigned_abs() > MAX_SHIFT
+        || z.unsigned_abs() > MAX_SHIFT
+    {
+        return None;
+    }
+    Some(Move {
+        op,
+        shift: [x, y, z],
+    })
+}
+
+#[test]
+fn prints_moves(rt: HostRuntime) -> Result<(), Fail> {
+    for (w, t, shift, want) in [
+        (SAME, [0, 0, 0], [0, 0, 0], "x,y,z"),
+        (TURN, [6, 0, 9], [1, -1, -1], "x+3/2,-y-1,-z-1/4"),
+        (
+            [-1, 0, 0, -1, 1, 0, 0, 0, 1],
+            [0, 0, 0],
+            [2_000_000_000, 1_000_000_000, 0],
+            "-x+2000000000,-x+y+1000000000,z",
+        ),
+        (
+            SAME,
+            [1, 0, 11],
+            [10_000_000_000, 0, -10_000_000_000],
+            "x+120000000001/12,y,z-119999999989/12",
+        ),
+    ] {
+        let [a, b, c] = t;
+        let raw = Raw::of(w, [a * TWELFTH, b * TWELFTH, c * TWELFTH]).ok_or("out of range")?;
+        let op = Op::of(&raw)?;
+        let element = element_of(op, shift).ok_or("out of range")?;
+        let text = print_move(&element);
+        assert_eq!(rt; text.bytes(), want.as_bytes(), "{want}");
+    }
+    Ok(())
 }
