@@ -1,11 +1,10 @@
-use Rattle.std.proofs.Common.{sym, subst, ℕ, List, rules, arith}
-use Rattle.std.proofs.lemmas.Grind.{common_steps}
+use Rattle.std.proofs.Common.{sym, subst, ℕ, List, rules}
 use Rattle.triplet_text.specs.Grammar.{IsTriplet}
 use Rattle.triplet_text.proofs.ReadBack.{text_is_triplet}
 use Rattle.triplet_text.proofs.printing.print_triplet.Goals as goal
 
 pub returns-clause-text : goal.returns-clause-text
-returns-clause-text c = first_of (search rules, grind (arith, common_steps))
+returns-clause-text c = search rules
 
 pub returns-clause-reads : goal.returns-clause-reads
 returns-clause-reads c =
