@@ -2,5 +2,5 @@ pub mod Narrow
 pub mod Listed
 mod Points
 mod Images
-mod Shifts
+mod ShiftedImages
 mod WholeShifts

@@ -10,7 +10,7 @@ use Rattle.exact_ops.specs.declared.TheConstants.{UNIT, MAX_SHIFT}
 use Rattle.exact_ops.specs.Narrow.{IsNarrow}
 use Rattle.exact_ops.specs.Moves.{map_with, IsShiftInRange}
 use Rattle.exact_ops.proofs.Narrow.{some_parts}
-use Rattle.exact_ops.proofs.Shifts.{at}
+use Rattle.exact_ops.proofs.ShiftedImages.{at}
 
 -- ---- an operator after an operator with whole shifts
 

@@ -52,7 +52,7 @@ rem_same n h x y k e =
 pub rem_part : (n : ℕ) → 0 < n → (x : ℤ) → IsPart n x → int_rem_euclid x (pos n) ≡ x
 rem_part n h x p = let a = rem_is n h x in one_place n _ _ a.0 a.1 a.2 p
 
--- a number is its remainder, and n times its quotient
+-- a number is its remainder and n times its quotient
 pub quotient_is : (n : ℕ) → 0 < n → (z : ℤ) → z ≡ int_rem_euclid z (pos n) +ℤ pos n *ℤ int_div_euclid z (pos n)
 quotient_is n h (pos a) = ap pos (above a n)
   where

@@ -8,7 +8,7 @@ use Rattle.lattice_algebra.specs.Operator.{modulo, IsPart, AreParts, identity_op
 use Rattle.lattice_algebra.specs.Map.{Map, operator_of}
 use Rattle.lattice_algebra.proofs.Ring.{var, ◌⊕◌, ◌⊖◌, ◌⊗◌, ring}
 use Rattle.lattice_algebra.proofs.MatrixRing.{matrix_at, column_at, ◌·ˢ◌, ◌·ˢᶜ◌, ◌+ˢᶜ◌, sym_times, sym_neg, sym_scaled, sym_identity, sym_origin, column_ring, matrix_ring}
-use Rattle.lattice_algebra.proofs.Remainders.{modulo_is, modulo_same, modulo_part, modulo_parts}
+use Rattle.lattice_algebra.proofs.Remainders.{modulo_same, modulo_part, modulo_parts, quotients, quotients_are}
 use Rattle.lattice_algebra.proofs.Maps.{operator_path}
 use Rattle.lattice_algebra.proofs.Numbers.{above, positive_product, abs_add, abs_sub, rounded}
 use Rattle.space_groups.proofs.RowSizes.{row_size}
@@ -37,15 +37,9 @@ shift_in L k = subst (Contains L.members) (sym (shift_operator L.unit L.some k))
 
 -- ---- whole parts
 
-split_shift : (s m k : Column) (u : ℤ) → m ≡ s +ᶜ times u k → s ≡ m +ᶜ times u (neg_column k)
-unfolding ◌+ᶜ◌ times neg_column
-split_shift s m k u e =
-    column_ring (u ∷ (coordinates s ++ coordinates k)) (column_at 1) (column_at 1 +ˢᶜ sym_times (var 0) (column_at 4) +ˢᶜ sym_times (var 0) (sym_neg (column_at 4))) tt
-    ∙ ap (λ v. v +ᶜ times u (neg_column k)) (sym e)
-
 -- a column is its remainder and a multiple of n
 pub whole_part : (n : ℕ) → 0 < n → (s : Column) → (k : Column) × (s ≡ modulo n s +ᶜ times (pos n) k)
-whole_part n h s = let m = modulo_is n h s in (neg_column m.0, split_shift s (modulo n s) m.0 (pos n) m.1)
+whole_part n h s = (quotients n s, quotients_are n h s)
 
 -- ---- the moved point
 

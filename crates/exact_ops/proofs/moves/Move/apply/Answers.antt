@@ -1,7 +1,7 @@
 use Rattle.std.proofs.Common.{rules, sym, ◌∙◌, refl, FitsSigned}
 use mir.Syntax.{w128}
 use Rattle.exact_ops.specs.Numbers.{point_in}
-use Rattle.exact_ops.proofs.Shifts.{applied, IsPointInRange-over}
+use Rattle.exact_ops.proofs.ShiftedImages.{applied, IsPointInRange-over}
 use Rattle.exact_ops.proofs.moves.Move.apply.Goals as goal
 
 pub returns-then-not-is_coordinate-clause-some : goal.returns-then-not-is_coordinate-clause-some
