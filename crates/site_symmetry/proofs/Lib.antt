@@ -1,2 +1,3 @@
 pub mod Group
 mod Quotients
+mod Shifts

@@ -1,0 +1,219 @@
+-- Which whole shifts of an operator fix a point: those by (n - r) / d, where r / d is the image of the point n / d.
+use Rattle.std.proofs.Common.{◌≡◌, ◌++◌, ◌∷◌, [], ◌≤◌, ◌+◌, ◌*◌, ◌^◌, ◌↔◌, ℕ, ℤ, pos, ◌+ℤ◌, ◌-ℤ◌, ◌*ℤ◌, ◌<ℤ◌, ◌≤ℤ◌, unsigned_abs, List, Some, slice_get, Contains, w64, ap, sym, subst, refl, ◌∙◌, arith, FitsSigned, mul-le-mul, le_refl, le_trans}
+use Rattle.std.proofs.lemmas.Int.{ints}
+use Rattle.std.proofs.lemmas.List.Elements.{All-contains}
+use mir.Syntax.{w128}
+use Rattle.lattice_algebra.specs.Matrix.{Matrix, Column, entries, coordinates, column_of, ◌·ᶜ◌, ◌+ᶜ◌, times}
+use Rattle.lattice_algebra.specs.Operator.{Operator, IsOperator}
+use Rattle.lattice_algebra.specs.Map.{Map, map_of, operator_of}
+use Rattle.lattice_algebra.specs.Point.{Point, IsPoint, ◌≈◌, image, HasCoordinatesWithin}
+use Rattle.lattice_algebra.proofs.Ring.{var, con, ◌⊕◌, ◌⊖◌, ◌⊗◌, neg, known, ring_from}
+use Rattle.lattice_algebra.proofs.MatrixRing.{matrix_at, column_at, ◌·ˢᶜ◌, ◌+ˢᶜ◌, sym_times, column_ring}
+use Rattle.lattice_algebra.proofs.Machine.{back, kept, fits, computed, IsWithin}
+use Rattle.lattice_algebra.proofs.Remainders.{modulo_same, modulo_part}
+use Rattle.lattice_algebra.proofs.Maps.{map_path, operator_path}
+use Rattle.lattice_algebra.proofs.Numbers.{abs_sub}
+use Rattle.lattice_algebra.proofs.Columns.{cancel_column}
+use Rattle.lattice_algebra.proofs.Points.{positive_times}
+use Rattle.exact_ops.specs.declared.TheConstants.{UNIT, MAX_COORDINATE, MAX_DENOMINATOR}
+use Rattle.exact_ops.specs.Narrow.{IsNarrow}
+use Rattle.exact_ops.specs.Points.{IsPointInRange}
+use Rattle.exact_ops.proofs.Narrow.{some_parts}
+use Rattle.group_closure.specs.GroupList.{IsGroup}
+use Rattle.group_closure.proofs.Places.{contains_at, same_at}
+use Rattle.space_groups.specs.Space.{IsInSite}
+use Rattle.space_groups.proofs.Laws.{shift_exists}
+use Rattle.site_symmetry.specs.OrderedSite.{SomeElementFixes}
+
+-- ---- maps of an operator
+
+abbrev pub shifted : Operator → Column → Map
+shifted f k = record { w = f.w; s = f.t +ᶜ times (pos UNIT) k }
+
+pub operator_of-shifted : (f : Operator) (k : Column) → IsOperator UNIT f → operator_of UNIT (shifted f k) ≡ f
+unfolding operator_of
+operator_of-shifted f k h = operator_path _ _ refl (modulo_same UNIT some_parts _ f.t k refl ∙ modulo_part UNIT some_parts f.t h.in_cell)
+
+pub shift_of : (f : Operator) (s : Map) → operator_of UNIT s ≡ f → (k : Column) × (s ≡ shifted f k)
+unfolding operator_of
+shift_of f s e =
+    let k = shift_exists UNIT some_parts s in
+    (k.0, map_path s (shifted f k.0) (ap (λ (g : Operator). g.w) e) (k.1 ∙ ap (λ (g : Operator). g.t +ᶜ times (pos UNIT) k.0) e))
+
+-- ---- the image of a point by such a map
+
+moved_by_shift : (w : Matrix) (t n k : Column) (u d : ℤ) → times d (times u (w ·ᶜ n) +ᶜ times d (t +ᶜ times u k)) ≡ times d (times u (w ·ᶜ n) +ᶜ times d t) +ᶜ times (u *ℤ d) (times d k)
+unfolding ◌·ᶜ◌ ◌+ᶜ◌ times
+moved_by_shift w t n k u d =
+    let U = var 0 in
+    let D = var 1 in
+    let W = matrix_at 2 in
+    let T = column_at 11 in
+    let N = column_at 14 in
+    let K = column_at 17 in
+    column_ring (u ∷ d ∷ (entries w ++ (coordinates t ++ (coordinates n ++ coordinates k))))
+    (sym_times D (sym_times U (W ·ˢᶜ N) +ˢᶜ sym_times D (T +ˢᶜ sym_times U K)))
+    (sym_times D (sym_times U (W ·ˢᶜ N) +ˢᶜ sym_times D T) +ˢᶜ sym_times (U ⊗ D) (sym_times D K)) tt
+
+gathered : (r v : Column) (c : ℤ) → times c r +ᶜ times c v ≡ times c (r +ᶜ v)
+unfolding ◌+ᶜ◌ times
+gathered r v c =
+    column_ring (c ∷ (coordinates r ++ coordinates v)) (sym_times (var 0) (column_at 1) +ˢᶜ sym_times (var 0) (column_at 4)) (sym_times (var 0) (column_at 1 +ˢᶜ column_at 4)) tt
+
+image_by_shift : (w : Matrix) (t n r k : Column) (u d : ℤ) → times (u *ℤ d) r ≡ times d (times u (w ·ᶜ n) +ᶜ times d t) → times d (times u (w ·ᶜ n) +ᶜ times d (t +ᶜ times u k)) ≡ times (u *ℤ d) (r +ᶜ times d k)
+image_by_shift w t n r k u d e = moved_by_shift w t n k u d ∙ ap (λ v. v +ᶜ times (u *ℤ d) (times d k)) (sym e) ∙ gathered r (times d k) (u *ℤ d)
+
+pub fixed_by_shift : (f : Operator) (p : Point) (r k : Column) → IsPoint p → record { n = r; d = p.d } ≈ image UNIT (map_of f) p → image UNIT (shifted f k) p ≈ p ↔ (r +ᶜ times p.d k ≡ p.n)
+unfolding image
+fixed_by_shift f p r k h e =
+    let m = image_by_shift f.w f.t p.n r k (pos UNIT) p.d e in (
+      (λ a. cancel_column (pos UNIT *ℤ p.d) (r +ᶜ times p.d k) p.n (positive_times UNIT p.d some_parts h) (sym m ∙ a)),
+      (λ a. m ∙ ap (times (pos UNIT *ℤ p.d)) a),
+    )
+
+-- ---- coordinate by coordinate
+
+-- the equation of one coordinate, solved for the image and for the difference
+difference_is : (n r k d : ℤ) → r +ℤ d *ℤ k ≡ n → n -ℤ r ≡ k *ℤ d
+difference_is n r k d e =
+    let N = var 0 in
+    let R = var 1 in
+    let K = var 2 in
+    let D = var 3 in
+    ring_from (n ∷ r ∷ k ∷ d ∷ []) (N ⊖ R) (K ⊗ D) (known (neg (con (pos 1))) (R ⊕ D ⊗ K) N ∷ []) (e, tt) tt
+
+from_difference : (n r k d : ℤ) → n -ℤ r ≡ k *ℤ d → r +ℤ d *ℤ k ≡ n
+from_difference n r k d e =
+    let N = var 0 in
+    let R = var 1 in
+    let K = var 2 in
+    let D = var 3 in
+    ring_from (n ∷ r ∷ k ∷ d ∷ []) (R ⊕ D ⊗ K) N (known (neg (con (pos 1))) (N ⊖ R) (K ⊗ D) ∷ []) (e, tt) tt
+
+-- the shift k, coordinate by coordinate
+pub record AreShifts (d : ℤ) (n r k : Column) : Type 0 where
+  pub x : n.x -ℤ r.x ≡ k.x *ℤ d
+  pub y : n.y -ℤ r.y ≡ k.y *ℤ d
+  pub z : n.z -ℤ r.z ≡ k.z *ℤ d
+
+column_of_shifts : (d : ℤ) (n r k : Column) → AreShifts d n r k → r +ᶜ times d k ≡ n
+unfolding ◌+ᶜ◌ times
+column_of_shifts d n r k h = λ i. record {
+  x = from_difference n.x r.x k.x d h.x i;
+  y = from_difference n.y r.y k.y d h.y i;
+  z = from_difference n.z r.z k.z d h.z i;
+}
+
+shifts_of_column : (d : ℤ) (n r k : Column) → r +ᶜ times d k ≡ n → AreShifts d n r k
+unfolding ◌+ᶜ◌ times
+shifts_of_column d n r k e = record {
+  x = difference_is n.x r.x k.x d (ap (λ (v : Column). v.x) e);
+  y = difference_is n.y r.y k.y d (ap (λ (v : Column). v.y) e);
+  z = difference_is n.z r.z k.z d (ap (λ (v : Column). v.z) e);
+}
+
+abbrev pub IsImage : Operator → Point → Column → Type 0
+IsImage f p r = record { n = r; d = p.d } ≈ image UNIT (map_of f) p
+
+-- an element of f that fixes p has such a shift
+pub shifts_of_fixing : (f : Operator) (p : Point) (r : Column) → IsPoint p → IsImage f p r → SomeElementFixes f p → (k : Column) × AreShifts p.d p.n r k
+shifts_of_fixing f p r h e s =
+    let k = shift_of f s.0 s.1 in
+    (k.0, shifts_of_column p.d p.n r k.0 ((fixed_by_shift f p r k.0 h e).0 (subst (λ (m : Map). image UNIT m p ≈ p) k.1 s.2)))
+
+-- and each such shift makes one
+pub fixing_of_shifts : (f : Operator) (p : Point) (r k : Column) → IsPoint p → IsImage f p r → AreShifts p.d p.n r k → image UNIT (shifted f k) p ≈ p
+fixing_of_shifts f p r k h e a = (fixed_by_shift f p r k h e).1 (column_of_shifts p.d p.n r k a)
+
+-- ---- what the code computes
+
+abbrev pub denominator_bound : ℕ
+denominator_bound = UNIT * MAX_DENOMINATOR ^ 3
+
+denominator_size : (d : ℤ) → pos 0 <ℤ d → d ≤ℤ pos denominator_bound → unsigned_abs d ≤ denominator_bound
+denominator_size d p q = omega (arith, ints)
+
+denominator_within : (p : Point) → IsPointInRange p → unsigned_abs p.d ≤ denominator_bound
+denominator_within p h = denominator_size p.d h.positive h.denominator
+
+pub kept_denominator : (p : Point) → IsPointInRange p → back w128 p.d ≡ p.d
+kept_denominator p h = kept w128 denominator_bound p.d (denominator_within p h) tt
+
+-- a numerator of the point, and one of its image
+pub record AreNear (p : Point) (n r : ℤ) : Type 0 where
+  pub range : IsPointInRange p
+  pub given : unsigned_abs n ≤ MAX_COORDINATE * unsigned_abs p.d
+  pub image : unsigned_abs r ≤ 7 * MAX_COORDINATE * unsigned_abs p.d
+
+abbrev pub IsNearImage : Point → Column → Type 0
+IsNearImage p r = HasCoordinatesWithin (7 * MAX_COORDINATE) (record { n = r; d = p.d })
+
+pub near_x : (p : Point) (r : Column) → IsPointInRange p → IsNearImage p r → AreNear p p.n.x r.x
+near_x p r h k = record { range = h; given = h.within.first; image = k.first }
+
+pub near_y : (p : Point) (r : Column) → IsPointInRange p → IsNearImage p r → AreNear p p.n.y r.y
+near_y p r h k = record { range = h; given = h.within.second; image = k.second }
+
+pub near_z : (p : Point) (r : Column) → IsPointInRange p → IsNearImage p r → AreNear p p.n.z r.z
+near_z p r h k = record { range = h; given = h.within.third; image = k.third }
+
+abbrev bounds : List ℕ
+bounds = MAX_COORDINATE * denominator_bound ∷ 7 * MAX_COORDINATE * denominator_bound ∷ []
+
+within : (p : Point) (n r : ℤ) → AreNear p n r → IsWithin bounds (n ∷ r ∷ [])
+within p n r h =
+    let d = denominator_within p h.range in
+    (le_trans h.given (mul-le-mul (le_refl MAX_COORDINATE) d), (le_trans h.image (mul-le-mul (le_refl (7 * MAX_COORDINATE)) d), tt))
+
+pub fits_difference : (p : Point) (n r : ℤ) → AreNear p n r → FitsSigned w128 (back w128 n -ℤ back w128 r)
+fits_difference p n r h = fits w128 bounds (n ∷ r ∷ []) (var 0 ⊖ var 1) (within p n r h) tt
+
+abbrev pub difference : ℤ → ℤ → ℤ
+difference n r = back w128 (back w128 n -ℤ back w128 r)
+
+pub difference_value : (p : Point) (n r : ℤ) → AreNear p n r → difference n r ≡ n -ℤ r
+difference_value p n r h = computed w128 bounds (n ∷ r ∷ []) (var 0 ⊖ var 1) (within p n r h) tt
+
+sum_of_sizes : (m a b d : ℕ) → a ≤ m * d → b ≤ 7 * m * d → a + b ≤ 8 * m * d
+sum_of_sizes m a b d h k = omega (arith, h, k)
+
+pub difference_within : (p : Point) (n r : ℤ) → AreNear p n r → unsigned_abs (difference n r) ≤ 8 * MAX_COORDINATE * unsigned_abs (back w128 p.d)
+difference_within p n r h =
+    rw (difference_value p n r h) (rw (kept_denominator p h.range) (le_trans (abs_sub n r) (sum_of_sizes MAX_COORDINATE (unsigned_abs n) (unsigned_abs r) (unsigned_abs p.d) h.given h.image)))
+
+-- the multiples that the code looks for
+pub multiple_computed : (p : Point) (n r k : ℤ) → AreNear p n r → n -ℤ r ≡ k *ℤ p.d → difference n r ≡ k *ℤ back w128 p.d
+multiple_computed p n r k h e = difference_value p n r h ∙ e ∙ ap (λ d. k *ℤ d) (sym (kept_denominator p h.range))
+
+-- and that it stores
+abbrev pub IsFound : Point → ℤ → ℤ → ℤ → Type 0
+IsFound p n r k = (difference n r ≡ k *ℤ back w128 p.d) × (unsigned_abs k ≤ 8 * MAX_COORDINATE)
+
+multiple_stored : (p : Point) (n r k : ℤ) → AreNear p n r → IsFound p n r k → n -ℤ r ≡ back w64 k *ℤ p.d
+multiple_stored p n r k h e =
+    sym (difference_value p n r h) ∙ e.0 ∙ ap (λ d. k *ℤ d) (kept_denominator p h.range) ∙ ap (λ j. j *ℤ p.d) (sym (kept w64 (8 * MAX_COORDINATE) k e.1 tt))
+
+pub shifts_stored : (p : Point) (r : Column) (x y z : ℤ) → IsPointInRange p → IsNearImage p r → IsFound p p.n.x r.x x → IsFound p p.n.y r.y y → IsFound p p.n.z r.z z → AreShifts p.d p.n r (record { x = back w64 x; y = back w64 y; z = back w64 z })
+shifts_stored p r x y z h k a b c = record {
+  x = multiple_stored p p.n.x r.x x (near_x p r h k) a;
+  y = multiple_stored p p.n.y r.y y (near_y p r h k) b;
+  z = multiple_stored p p.n.z r.z z (near_z p r h k) c;
+}
+
+-- ---- elements of the group
+
+operator_at : (members : List Operator) (f : Operator) (i : ℕ) → IsGroup members → slice_get members i ≡ Some f → IsOperator UNIT f
+operator_at members f i g e = (All-contains IsNarrow members f g.narrow (contains_at members f i e)).is_operator
+
+pub some_fixes : (members : List Operator) (op f : Operator) (i : ℕ) (p : Point) (r k : Column) → IsGroup members → slice_get members i ≡ Some op → IsPoint p → IsImage op p r → AreShifts p.d p.n r k → slice_get members i ≡ Some f → SomeElementFixes f p
+some_fixes members op f i p r k g e h m a q =
+    subst (λ v. SomeElementFixes v p) (same_at members op f i e q) (shifted op k, operator_of-shifted op k (operator_at members op i g e), fixing_of_shifts op p r k h m a)
+
+pub in_site : (members : List Operator) (op : Operator) (i : ℕ) (p : Point) (r k : Column) → IsGroup members → slice_get members i ≡ Some op → IsPoint p → IsImage op p r → AreShifts p.d p.n r k → IsInSite UNIT members p (shifted op k)
+in_site members op i p r k g e h m a = record {
+  element = subst (Contains members) (sym (operator_of-shifted op k (operator_at members op i g e))) (contains_at members op i e);
+  fixes = fixing_of_shifts op p r k h m a;
+}
+
+pub shifts_at : (members : List Operator) (op f : Operator) (i : ℕ) (p : Point) (r : Column) → slice_get members i ≡ Some op → IsPoint p → IsImage op p r → slice_get members i ≡ Some f → SomeElementFixes f p → (k : Column) × AreShifts p.d p.n r k
+shifts_at members op f i p r e h m q s = shifts_of_fixing op p r h m (subst (λ v. SomeElementFixes v p) (same_at members f op i q e) s)
