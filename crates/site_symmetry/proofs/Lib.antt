@@ -1,3 +1,4 @@
 pub mod Group
 mod Quotients
 mod Shifts
+mod Listed
