@@ -1,4 +1,4 @@
 pub mod Group
 mod Quotients
-mod Shifts
-mod Listed
+pub mod Shifts
+pub mod Listed

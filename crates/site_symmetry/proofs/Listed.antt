@@ -1,9 +1,9 @@
 -- Lists of the elements that fix a point, in the order of their operators.
-use Rattle.std.proofs.Common.{◌≡◌, ◌≢◌, ◌++◌, ◌∷◌, [], ◌≤◌, ◌+◌, ◌<◌, ◌↔◌, ◌⊎◌, ℕ, zero, suc, Bool, true, false, List, Some, length, slice_get, get_or, Contains, AllPairs, inl, inr, ⊎_elim, ap, ap₂, sym, subst, refl, ◌∙◌, arith, length-append}
+use Rattle.std.proofs.Common.{◌≡◌, ◌≢◌, ◌++◌, ◌∷◌, [], ◌≤◌, ◌+◌, ◌<◌, ◌↔◌, ℕ, zero, suc, true, false, List, Some, length, slice_get, get_or, Contains, AllPairs, inl, inr, ⊎_elim, ap, ap₂, sym, subst, refl, ◌∙◌, arith, length-append}
 use Rattle.std.proofs.lemmas.Bool.{cases_lt, cases_Bool, false≢true}
-use Rattle.std.proofs.lemmas.Option.{get_or_from_slice_get, slice_get_within, slice_get-get_or}
+use Rattle.std.proofs.lemmas.Option.{slice_get-get_or}
 use Rattle.std.proofs.lemmas.List.Elements.{Contains-append_left, Contains-append_right, Contains-append_cases, Contains-get_or}
-use Rattle.std.proofs.lemmas.List.{get_or_append_left, get_or-append_right}
+use Rattle.std.proofs.lemmas.List.{get_or_append_left}
 use Rattle.std.proofs.Math.Seq.{get_or-append_seam}
 use Rattle.std.proofs.lemmas.Map.Made.{IsDistinct-from_AllPairs}
 use Rattle.finite_groups.proofs.Members as lists
@@ -113,11 +113,11 @@ one_more members x i list f s g p was q o h =
         ]),
       );
       ordered = AllPairs-append_one (StandsBefore members) list s was.ordered (λ t c.
-      let r = (was.exactly t).0 c in
-      λ j k a b.
-      let first : j ≡ r.0 = one_place members (operator_of UNIT t) j r.0 g.distinct a r.2 in
-      let second : k ≡ i = one_place members (operator_of UNIT s) k i g.distinct b e in
-      omega (arith, first, second, r.1));
+          let r = (was.exactly t).0 c in
+          λ j k a b.
+          let first : j ≡ r.0 = one_place members (operator_of UNIT t) j r.0 g.distinct a r.2 in
+          let second : k ≡ i = one_place members (operator_of UNIT s) k i g.distinct b e in
+          omega (arith, first, second, r.1));
     }
   where
     only : (t : Map) → Contains (s ∷ []) t → s ≡ t

@@ -1,5 +1,5 @@
 -- Quotients that are whole.
-use Rattle.std.proofs.Common.{◌≡◌, ◌∷◌, [], ◌≤◌, ◌<◌, ◌*◌, ℕ, ℤ, pos, negsuc, ◌+ℤ◌, ◌-ℤ◌, ◌*ℤ◌, ◌<ℤ◌, unsigned_abs, int_div, int_rem, ap, sym, ◌∙◌, arith}
+use Rattle.std.proofs.Common.{◌≡◌, ◌∷◌, [], ◌≤◌, ◌<◌, ◌*◌, ℕ, ℤ, pos, negsuc, ◌+ℤ◌, ◌-ℤ◌, ◌*ℤ◌, ◌<ℤ◌, unsigned_abs, int_div, int_rem, ap, ◌∙◌, arith}
 use Rattle.std.proofs.lemmas.Int.{ints, quot-rem, rem_below, unsigned_abs-mul}
 use Rattle.lattice_algebra.proofs.Ring.{known, var, con, ◌⊕◌, ◌⊖◌, ◌⊗◌, ring, ring_from}
 use Rattle.lattice_algebra.proofs.Numbers.{digit}

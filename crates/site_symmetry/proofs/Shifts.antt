@@ -3,7 +3,7 @@ use Rattle.std.proofs.Common.{◌≡◌, ◌++◌, ◌∷◌, [], ◌≤◌, ◌
 use Rattle.std.proofs.lemmas.Int.{ints}
 use Rattle.std.proofs.lemmas.List.Elements.{All-contains}
 use mir.Syntax.{w128}
-use Rattle.lattice_algebra.specs.Matrix.{Matrix, Column, entries, coordinates, column_of, ◌·ᶜ◌, ◌+ᶜ◌, times}
+use Rattle.lattice_algebra.specs.Matrix.{Matrix, Column, entries, coordinates, ◌·ᶜ◌, ◌+ᶜ◌, times}
 use Rattle.lattice_algebra.specs.Operator.{Operator, IsOperator}
 use Rattle.lattice_algebra.specs.Map.{Map, map_of, operator_of}
 use Rattle.lattice_algebra.specs.Point.{Point, IsPoint, ◌≈◌, image, HasCoordinatesWithin}
@@ -205,13 +205,16 @@ shifts_stored p r x y z h k a b c = record {
 operator_at : (members : List Operator) (f : Operator) (i : ℕ) → IsGroup members → slice_get members i ≡ Some f → IsOperator UNIT f
 operator_at members f i g e = (All-contains IsNarrow members f g.narrow (contains_at members f i e)).is_operator
 
+pub operator_of_member : (members : List Operator) (op : Operator) (i : ℕ) (k : Column) → IsGroup members → slice_get members i ≡ Some op → operator_of UNIT (shifted op k) ≡ op
+operator_of_member members op i k g e = operator_of-shifted op k (operator_at members op i g e)
+
 pub some_fixes : (members : List Operator) (op f : Operator) (i : ℕ) (p : Point) (r k : Column) → IsGroup members → slice_get members i ≡ Some op → IsPoint p → IsImage op p r → AreShifts p.d p.n r k → slice_get members i ≡ Some f → SomeElementFixes f p
 some_fixes members op f i p r k g e h m a q =
-    subst (λ v. SomeElementFixes v p) (same_at members op f i e q) (shifted op k, operator_of-shifted op k (operator_at members op i g e), fixing_of_shifts op p r k h m a)
+    subst (λ v. SomeElementFixes v p) (same_at members op f i e q) (shifted op k, operator_of_member members op i k g e, fixing_of_shifts op p r k h m a)
 
 pub in_site : (members : List Operator) (op : Operator) (i : ℕ) (p : Point) (r k : Column) → IsGroup members → slice_get members i ≡ Some op → IsPoint p → IsImage op p r → AreShifts p.d p.n r k → IsInSite UNIT members p (shifted op k)
 in_site members op i p r k g e h m a = record {
-  element = subst (Contains members) (sym (operator_of-shifted op k (operator_at members op i g e))) (contains_at members op i e);
+  element = subst (Contains members) (sym (operator_of_member members op i k g e)) (contains_at members op i e);
   fixes = fixing_of_shifts op p r k h m a;
 }
 

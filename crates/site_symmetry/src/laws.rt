@@ -27,7 +27,7 @@ pub fn site_of_image()
 pub fn conjugate_by_members()
     ensures { (members : List Operator) (x y : Point) → IsGroup members → IsPoint x → IsPoint y
         → (AreConjugate UNIT members x y ↔ ((g : Map) × IsElement UNIT members g
-            × ((f : Operator) → Contains members f → HaveSameElement UNIT members f (image UNIT g x) y))) }
+        × ((f : Operator) → Contains members f → HaveSameElement UNIT members f (image UNIT g x) y))) }
 {}
 
 /// Lagrange's theorem: members of a group, each once, at least one of them and with the product of each two, are so many

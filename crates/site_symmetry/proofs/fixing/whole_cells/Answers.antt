@@ -1,4 +1,4 @@
-use Rattle.std.proofs.Common.{◌≡◌, ◌<◌, ◌*◌, ◌^◌, ◌≤◌, ℤ, pos, ◌*ℤ◌, unsigned_abs, int_div, int_rem, ap, ap₂, sym, subst, refl, ◌∙◌, true, false, w64, FitsSigned, to_z, of_z, to_z-of_z, lt_of_le_of_lt, arith}
+use Rattle.std.proofs.Common.{◌≡◌, ◌*◌, ◌≤◌, ℤ, pos, ◌*ℤ◌, unsigned_abs, int_div, int_rem, ap, ap₂, sym, subst, refl, ◌∙◌, w64, FitsSigned, to_z, of_z, to_z-of_z, arith}
 use Rattle.std.proofs.lemmas.Bool.{false≢true}
 use Rattle.std.proofs.lemmas.Int.{ints, quot_fits, quot_is, rem_is}
 use mir.Syntax.{w128}

@@ -1,4 +1,4 @@
-use Rattle.std.proofs.Common.{◌≡◌, ◌≤◌, map, length, vec_len, vec_capacity}
+use Rattle.std.proofs.Common.{◌≤◌, map, length, vec_len, vec_capacity}
 use Rattle.exact_ops.specs.Numbers.{point_in}
 use Rattle.exact_ops.specs.Elements.{map_in}
 use Rattle.site_symmetry.proofs.Listed.{AreFixing}
