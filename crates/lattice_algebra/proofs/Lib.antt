@@ -3,6 +3,7 @@ pub mod MatrixRing
 pub mod Machine
 pub mod Numbers
 pub mod Remainders
+pub mod Quotients
 pub mod Columns
 pub mod Matrices
 pub mod Equality

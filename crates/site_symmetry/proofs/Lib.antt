@@ -1,4 +1,3 @@
 pub mod Group
-mod Quotients
 pub mod Shifts
 pub mod Listed

@@ -4,7 +4,7 @@ use Rattle.std.proofs.lemmas.Int.{ints, quot_fits, quot_is, rem_is}
 use mir.Syntax.{w128}
 use Rattle.lattice_algebra.proofs.Machine.{back, kept}
 use Rattle.exact_ops.specs.declared.TheConstants.{MAX_COORDINATE}
-use Rattle.site_symmetry.proofs.Quotients.{rem_of_multiple, multiple_of_quotient, quotient_within}
+use Rattle.lattice_algebra.proofs.Quotients.{rem_of_multiple, multiple_of_quotient, quotient_within}
 use Rattle.site_symmetry.proofs.fixing.whole_cells.Goals as goal
 
 -- the machine's remainder, as bits
