@@ -1,0 +1,4 @@
+mod Images
+mod Group
+mod Order
+mod OrbitLists

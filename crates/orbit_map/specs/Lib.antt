@@ -1,3 +1,4 @@
 pub use Rattle.space_groups.specs.Space
 pub use Rattle.space_groups.specs.Lists
 pub mod OrderedOrbit
+pub mod Steps

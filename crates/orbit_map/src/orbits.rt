@@ -1,12 +1,9 @@
-ghost use Rattle.std.specs.Prelude.{◌≡◌, IfOk};
-ghost use Rattle.std.specs.Ordering.{int_cmp};
-ghost use Rattle.std.specs.Cmp.Lexicographic.{slice_cmp};
-ghost use Rattle.lattice_algebra.specs.Map.{Map, operator_of};
-ghost use Rattle.lattice_algebra.specs.Point.{◌≈◌, image};
-ghost use Rattle.exact_ops.specs.Numbers.{point_in};
+ghost use Rattle.std.specs.Prelude.{◌≡◌, IfOk, length};
+ghost use Rattle.lattice_algebra.specs.Operator.{IsOperator};
 ghost use Rattle.exact_ops.specs.declared.TheConstants.{UNIT};
-ghost use Rattle.space_groups.specs.Space.{IsInCell};
+ghost use Rattle.exact_ops.specs.Numbers.{point_in};
 ghost use Rattle.orbit_map.specs.OrderedOrbit.{IsOrderedOrbit};
+ghost use Rattle.orbit_map.specs.Steps.{IsPlaced, stored_cmp};
 
 use crate::parts::Orbit;
 use exact_ops::{NoMemory, Op, Point};
@@ -32,9 +29,9 @@ pub fn orbit(alloc: Global, g: &Group, p: &Point) -> Result<Orbit, NoMemory>
 
 /// The image of p under the operator, moved into the cell.
 fn image_in_cell(op: &Op, p: &Point) -> Point
-    ensures denominator { result.d ≡ p.now.d }
-    ensures cell { IsInCell (point_in result) }
-    ensures value { (s : Map) × (operator_of UNIT s ≡ op.now) × (image UNIT s (point_in p.now) ≈ point_in result) }
+    requires { IsOperator UNIT op.now }
+    ensures three { length result.n ≡ 3 }
+    ensures placed { IsPlaced op.now (point_in p.now) (point_in result) }
 {
     let [x, y, z] = op.image_of(p);
     Point {
@@ -43,8 +40,9 @@ fn image_in_cell(op: &Op, p: &Point) -> Point
     }
 }
 
+/// By the numerators, and by the denominators where they are alike.
 fn compare(a: &Point, b: &Point) -> Ordering
-    ensures { result ≡ slice_cmp int_cmp a.now.n b.now.n }
+    ensures { result ≡ stored_cmp a.now b.now }
 {
-    a.n.cmp(&b.n)
+    a.n.cmp(&b.n).then(a.d.cmp(&b.d))
 }

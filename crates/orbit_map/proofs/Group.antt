@@ -1,0 +1,11 @@
+-- The space group of a group of operators.
+use Rattle.std.proofs.Common.{List}
+use Rattle.lattice_algebra.specs.Operator.{Operator}
+use Rattle.exact_ops.specs.declared.TheConstants.{UNIT}
+use Rattle.exact_ops.proofs.Narrow.{some_parts}
+use Rattle.group_closure.specs.GroupList.{IsGroup}
+use Rattle.group_closure.proofs.Lists.{closed_list}
+use Rattle.space_groups.proofs.Elements.{SpaceGroup}
+
+abbrev pub space_of : (members : List Operator) → IsGroup members → SpaceGroup
+space_of members g = record { unit = UNIT; some = some_parts; members = members; closed = closed_list members g }
