@@ -1,5 +1,5 @@
 -- The image of a point, moved into the cell.
-use Rattle.std.proofs.Common.{◌≡◌, ◌∷◌, ◌++◌, ◌*◌, ◌^◌, ◌<◌, ◌≤◌, [], ℕ, zero, suc, List, length, ℤ, pos, negsuc, ◌*ℤ◌, ◌<ℤ◌, unsigned_abs, ap, ap₂, sym, ◌∙◌, subst, refl, arith, mul-le-mul, le_refl, le_trans}
+use Rattle.std.proofs.Common.{◌≡◌, ◌∷◌, ◌++◌, ◌*◌, ◌^◌, ◌<◌, ◌≤◌, [], ℕ, List, ℤ, pos, negsuc, ◌*ℤ◌, ◌<ℤ◌, unsigned_abs, ap, ap₂, sym, ◌∙◌, subst, refl, arith, mul-le-mul, le_refl, le_trans}
 use Rattle.std.proofs.lemmas.Int.{ints}
 use mir.Syntax.{w128}
 use Rattle.std.specs.Int.{int_rem_euclid}
@@ -13,10 +13,8 @@ use Rattle.lattice_algebra.proofs.MatrixRing.{column_at, ◌+ˢᶜ◌, sym_times
 use Rattle.lattice_algebra.proofs.Machine.{back, kept}
 use Rattle.lattice_algebra.proofs.Maps.{operator_path}
 use Rattle.lattice_algebra.proofs.Remainders.{rem_is, modulo_is, modulo_same, modulo_part, modulo_parts}
-use Rattle.exact_ops.specs.declared.point.Point.{Point}
 use Rattle.exact_ops.specs.declared.TheConstants.{UNIT, MAX_COORDINATE, MAX_DENOMINATOR}
 use Rattle.exact_ops.specs.Points.{point_with, IsPointInRange}
-use Rattle.exact_ops.specs.Numbers.{point_in}
 use Rattle.exact_ops.proofs.Narrow.{some_parts}
 use Rattle.space_groups.specs.Space.{IsInCell}
 use Rattle.orbit_map.specs.Steps.{IsPlaced}

@@ -1,12 +1,12 @@
 -- A list of points is an orbit.
-use Rattle.std.proofs.Common.{◌≡◌, ◌∷◌, ◌++◌, [], ℕ, ◌+◌, ◌<◌, ◌≤◌, ◌⊎◌, inl, inr, ⊎_elim, Some, List, length, map, get_or, slice_get, ℤ, pos, ◌<ℤ◌, All, AllPairs, Contains, IsPermutation, IsSorted, ap, sym, ◌∙◌, subst, refl, arith}
+use Rattle.std.proofs.Common.{◌≡◌, ◌∷◌, ◌++◌, [], ℕ, ◌+◌, ◌<◌, ◌≤◌, ⊎_elim, Some, List, length, map, get_or, slice_get, ℤ, pos, ◌*ℤ◌, ◌<ℤ◌, All, AllPairs, Contains, IsPermutation, IsSorted, ap, sym, ◌∙◌, subst, refl, arith}
 use Rattle.std.proofs.lemmas.Bool.{cases_lt}
 use Rattle.std.proofs.lemmas.Option.{slice_get-get_or}
 use Rattle.std.specs.List.{dedup}
 use Rattle.std.specs.List.Sorted.{IsStrictlySortedBy}
 use Rattle.std.specs.List.Retain.{IsFiltered, DiffersFromLast}
 use Rattle.std.proofs.lemmas.List.{length-map, get_or-map}
-use Rattle.std.proofs.lemmas.List.Elements.{All-map, All-contains, All-append, All-cons, Contains-append_left, Contains-append_right}
+use Rattle.std.proofs.lemmas.List.Elements.{Contains-get_or, All-map, All-contains, All-append, All-cons, Contains-append_left, Contains-append_right}
 use Rattle.std.proofs.lemmas.List.Filters.{dedup_is, All-dedup}
 use Rattle.std.proofs.lemmas.List.Kept.{Any-dedup, IsStrictlySortedBy-dedup}
 use Rattle.std.proofs.lemmas.List.Sorted.{All-permutation, Contains-permutation}
@@ -25,17 +25,17 @@ use Rattle.exact_ops.specs.declared.TheConstants.{UNIT}
 use Rattle.exact_ops.specs.Numbers.{point_in}
 use Rattle.exact_ops.proofs.Narrow.{some_parts}
 use Rattle.group_closure.specs.GroupList.{IsGroup}
-use Rattle.space_groups.specs.Space.{IsElement, IsInCell, IsInOrbit, ScaledPoint, moved, point_of}
+use Rattle.space_groups.specs.Space.{IsInCell, IsInOrbit, ScaledPoint, moved, point_of}
 use Rattle.space_groups.specs.Keys.{IsBelow}
-use Rattle.space_groups.specs.Lists.{IsOrbitList}
-use Rattle.space_groups.proofs.Orbits.{in_cell, cell_operator}
-use Rattle.space_groups.proofs.OrbitLists.{stays_in_cell}
+use Rattle.space_groups.proofs.Orbits.{in_cell, cell_operator, orbit, orbit_is}
+use Rattle.space_groups.proofs.OrbitLists.{stays_in_cell, orbit_points, orbit_list}
 use Rattle.space_groups.proofs.Points.{scaled_of, IsPoint-scaled, image_of}
-use Rattle.space_groups.proofs.Ordered.{not_below_itself}
-use Rattle.orbit_map.specs.OrderedOrbit.{IsOrderedOrbit}
+use Rattle.space_groups.proofs.Ordered.{not_below_itself, below_on, one_list}
+use Rattle.space_groups.proofs.Elements.{SpaceGroup}
+use Rattle.orbit_map.specs.OrderedOrbit.{IsOrderedOrbit, IsScaled}
 use Rattle.orbit_map.specs.Steps.{IsPlaced, stored_cmp}
 use Rattle.orbit_map.proofs.Group.{space_of}
-use Rattle.orbit_map.proofs.Order.{stored_eq, stored_eq-is, stored_ties, stored_same, stored_cmp_total, stored_below}
+use Rattle.orbit_map.proofs.Order.{in_order, below_over_one, stored_eq, stored_eq-is, stored_ties, stored_same, stored_cmp_total, stored_below}
 
 -- ---- images with one operator
 
@@ -75,24 +75,32 @@ IsAscending list = AllPairs (λ (p q : rational.Point). IsBelow (coordinates p.n
 placed_point : (f : Operator) (x p : rational.Point) → IsPoint x → IsPlaced f x p → IsPoint p
 placed_point f x p h i = subst (λ d. pos 0 <ℤ d) (sym i.denominator) h
 
-pub ordered_images : (members : List Operator) (x : rational.Point) (list : List rational.Point) → IsGroup members → IsPoint x → All (IsPlacedBy members x) list → ((f : Operator) → Contains members f → HasPlaced x list f) → IsAscending list → IsOrderedOrbit members x list
-ordered_images members x list m px each has up = record {
+-- a list over one denominator in strict order has each point once
+ordered : (members : List Operator) (x : rational.Point) (list : List rational.Point) → IsPoint x → ((p : rational.Point) → Contains list p → IsPoint p × IsInOrbit UNIT members x p)
+    → ((p : rational.Point) → IsPoint p → IsInOrbit UNIT members x p → (q : rational.Point) × Contains list q × (p ≈ q)) → All (λ (p : rational.Point). p.d ≡ x.d) list → IsAscending list → IsOrderedOrbit members x list
+ordered members x list px sound whole over up = record {
   orbit = record {
-    in_orbit = λ p c.
-        let r = All-contains (IsPlacedBy members x) list p each c in
-        let i = r.2 in
-        (placed_point r.0 x p px i, record { by = i.by; element = subst (Contains members) (sym i.operator) r.1; is_image = i.is_image; in_cell = i.in_cell });
-    has_each = λ p pp o.
-        let r = has (operator_of UNIT o.by) o.element in
-        let i = r.2 in
-        (r.0, r.1, same_in_cell members m x p r.0 px pp (placed_point _ x r.0 px i) o.in_cell i.in_cell o.by i.by (sym i.operator) o.is_image i.is_image);
+    in_orbit = sound;
+    has_each = whole;
     once = λ i j d l k s.
-        let e = one_numerator _ _ x.d px (each i d (omega arith)).2.denominator (each j d k).2.denominator s in
+        let e = one_numerator _ _ x.d px (over i d (omega arith)) (over j d k) s in
         not_below_itself (coordinates (get_or list i d).n) (subst (λ (p : rational.Point). IsBelow (coordinates (get_or list i d).n) (coordinates p.n)) (sym e) (up i j d l k));
   };
-  denominators = λ i d l. (each i d l).2.denominator;
+  denominators = over;
   ascending = up;
 }
+
+ordered_images : (members : List Operator) (x : rational.Point) (list : List rational.Point) → IsGroup members → IsPoint x → All (IsPlacedBy members x) list → ((f : Operator) → Contains members f → HasPlaced x list f) → IsAscending list → IsOrderedOrbit members x list
+ordered_images members x list m px each has up = ordered members x list px
+    (λ p c.
+    let r = All-contains (IsPlacedBy members x) list p each c in
+    let i = r.2 in
+    (placed_point r.0 x p px i, record { by = i.by; element = subst (Contains members) (sym i.operator) r.1; is_image = i.is_image; in_cell = i.in_cell }))
+    (λ p pp o.
+    let r = has (operator_of UNIT o.by) o.element in
+    let i = r.2 in
+    (r.0, r.1, same_in_cell members m x p r.0 px pp (placed_point _ x r.0 px i) o.in_cell i.in_cell o.by i.by (sym i.operator) o.is_image i.is_image))
+    (λ i d l. (each i d l).2.denominator) up
 
 -- ---- the list that the code makes
 
@@ -111,9 +119,9 @@ placed_more members x i points more f p a e n h is = subst (ArePlaced members x 
   has = λ k g l s. ⊎_elim
       (λ b. let r = a.has k g b s in (r.0, Contains-append_left points (p ∷ []) r.0 r.1, r.2))
       (λ b.
-          let at : k ≡ i = omega arith in
-          let same : f ≡ g = same_at members f g i e (ap (λ j. slice_get members j) (sym at) ∙ s) in
-          (p, Contains-append_right points (p ∷ []) p (lists.Contains-here p []), subst (λ v. IsPlaced v x (point_in p)) same h))
+      let at : k ≡ i = omega arith in
+      let same : f ≡ g = same_at members f g i e (ap (λ j. slice_get members j) (sym at) ∙ s) in
+      (p, Contains-append_right points (p ∷ []) p (lists.Contains-here p []), subst (λ v. IsPlaced v x (point_in p)) same h))
       (cases_lt k i);
 })
 
@@ -136,7 +144,43 @@ orbit_of_points members x n points sorted kept m px a l moved s k =
     let each : All (IsStored members x) kept = subst (All (IsStored members x)) (sym is) (All-dedup stored_eq (IsStored members x) sorted (All-permutation (IsStored members x) points sorted moved a.each)) in
     let strict : IsStrictlySortedBy stored_cmp kept = subst (IsStrictlySortedBy stored_cmp) (sym is) (IsStrictlySortedBy-dedup stored_cmp_total stored_ties sorted s) in
     let has : (f : Operator) → Contains members f → HasPlaced x (map point_in kept) f = λ f c.
-        let r = a.has c.0 f (omega (arith, c.1)) (slice_get-get_or members c.0 f c.1 ∙ ap Some c.2) in
-        let q = Any-dedup stored_eq-is sorted r.0 (Contains-permutation points sorted r.0 moved r.1) in
-        (point_in q.1, lists.Contains-map point_in q.1 kept (subst (λ v. Contains v q.1) (sym is) (q.0, q.2, q.3)), subst (IsPlaced f x) (stored_same r.0 q.1 q.4) r.2) in
+    let r = a.has c.0 f (omega (arith, c.1)) (slice_get-get_or members c.0 f c.1 ∙ ap Some c.2) in
+    let q = Any-dedup stored_eq-is sorted r.0 (Contains-permutation points sorted r.0 moved r.1) in
+    (point_in q.1, lists.Contains-map point_in q.1 kept (subst (λ v. Contains v q.1) (sym is) (q.0, q.2, q.3)), subst (IsPlaced f x) (stored_same r.0 q.1 q.4) r.2) in
     ordered_images members x (map point_in kept) m px (All-map (IsPlacedBy members x) point_in kept (λ k d l. (each k d l).1)) has (ascending_stored members x kept each strict)
+
+-- ---- each point has one ordered orbit
+
+depth : (L : SpaceGroup) (y z : ScaledPoint) → Contains (orbit L y) z → y.d ≡ z.d
+unfolding in_cell moved
+depth L y z c = let r = (orbit_is L y z).0 c in ap (λ (v : ScaledPoint). v.d) r.2
+
+scaled_ordered_orbit : (members : List Operator) (y : ScaledPoint) → IsGroup members → (list : List rational.Point) × IsOrderedOrbit members (point_of UNIT y) list
+scaled_ordered_orbit members y m =
+    let L = space_of members m in
+    let x : rational.Point = point_of UNIT y in
+    let px : IsPoint x = IsPoint-scaled UNIT some_parts y in
+    let o = orbit_list L x y px refl in
+    let s = in_order (orbit_points L y) in
+    let over : All (λ (p : rational.Point). p.d ≡ x.d) s.0 = λ k d l.
+    let r = lists.Contains-from_map (point_of UNIT) _ (orbit L y) ((s.2 _).1 (Contains-get_or s.0 k d l)) in
+    sym (ap (λ v. pos UNIT *ℤ pos v) (depth L y r.0 r.1) ∙ ap (λ (p : rational.Point). p.d) r.2) in (
+      s.0,
+      ordered members x s.0 px (λ p c. o.in_orbit p ((s.2 p).1 c)) (λ p pp i. let h = o.has_each p pp i in (h.0, (s.2 h.0).0 h.1, h.2)) over
+          (λ i j d l k. below_over_one (get_or s.0 i d) (get_or s.0 j d) (over i d (omega arith) ∙ sym (over j d k)) (s.1 i j d l k)),
+    )
+
+pub some_ordered_orbit : (members : List Operator) (x : rational.Point) → IsGroup members → IsScaled x → (list : List rational.Point) × IsOrderedOrbit members x list
+some_ordered_orbit members x m s = subst (λ v. (list : List rational.Point) × IsOrderedOrbit members v list) (sym s.1) (scaled_ordered_orbit members s.0 m)
+
+in_other : (members : List Operator) (x : rational.Point) (a b : List rational.Point) → IsPoint x → IsOrderedOrbit members x a → IsOrderedOrbit members x b → (z : rational.Point) → Contains a z → Contains b z
+in_other members x a b px p q z c =
+    let o = p.orbit.in_orbit z c in
+    let r = q.orbit.has_each z o.0 o.1 in
+    let over : rational.Point → Type 0 = λ v. v.d ≡ x.d in
+    subst (Contains b) (sym (one_numerator z r.0 x.d px (All-contains over a z p.denominators c) (All-contains over b r.0 q.denominators r.1) r.2)) r.1
+
+pub one_orbit : (members : List Operator) (x : rational.Point) (a b : List rational.Point) → IsPoint x → IsOrderedOrbit members x a → IsOrderedOrbit members x b → a ≡ b
+one_orbit members x a b px p q =
+    one_list (λ (p q : rational.Point). IsBelow (coordinates p.n) (coordinates q.n)) (λ p. not_below_itself (coordinates p.n)) (λ p q r. below_on (coordinates p.n) (coordinates q.n) (coordinates r.n)) a b p.ascending q.ascending
+    (λ z. (in_other members x a b px p q z, in_other members x b a px q p z))

@@ -1,5 +1,5 @@
 -- The order of the points of an orbit, and of the points that are stored.
-use Rattle.std.proofs.Common.{Bool, true, false, ◌&&◌, ap₂, ◌≡◌, ◌∷◌, [], ◌⊎◌, inl, inr, List, length, ℤ, ◌<ℤ◌, ap, sym, ◌∙◌, subst, refl, arith, Ordering, Less, Equal, Greater}
+use Rattle.std.proofs.Common.{⊎_elim, ◌↔◌, AllPairs, Contains, pos, Bool, true, false, ◌&&◌, ap₂, ◌≡◌, ◌∷◌, [], ◌⊎◌, inl, inr, List, length, ℤ, ◌<ℤ◌, ap, sym, ◌∙◌, subst, refl, arith, Ordering, Less, Equal, Greater}
 use Rattle.std.proofs.lemmas.Int.{ints}
 use lib.Pointwise.{pointwise}
 use Rattle.std.specs.Cmp.{IsTotalOrder, IsEquivalence, signed_Decides}
@@ -9,9 +9,12 @@ use Rattle.std.specs.Cmp.Lexicographic.{slice_cmp, lists_ties}
 use Rattle.std.proofs.lemmas.Cmp.{lists_total, on_total, then_total, int_cmp_total, int_ranked, lists_equiv, on_equiv, and_equiv, int_eq_equiv}
 use Rattle.exact_ops.specs.Points.{point_with}
 use Rattle.lattice_algebra.specs.Matrix.{coordinates, column_of}
+use Rattle.lattice_algebra.specs.Point as rational
+use Rattle.finite_groups.proofs.Sorting.{sorted}
 use Rattle.exact_ops.specs.declared.point.Point.{Point}
 use Rattle.exact_ops.specs.Numbers.{point_in}
 use Rattle.space_groups.specs.Keys.{IsBelow}
+use Rattle.space_groups.proofs.Ordered.{below_on}
 use Rattle.orbit_map.specs.Steps.{stored_cmp}
 
 pub stored_cmp_total : IsTotalOrder stored_cmp
@@ -71,3 +74,40 @@ pub stored_below : (p q : Point) → length p.n ≡ 3 → length q.n ≡ 3 → p
 stored_below p q h k e l =
     let b : IsBelow p.n q.n = below_from_less p.n q.n (numerators_less (slice_cmp int_cmp p.n q.n) p.d q.d e l) in
     subst (λ v. IsBelow v (coordinates (point_in q).n)) (sym (three_numbers p.n h)) (subst (IsBelow p.n) (sym (three_numbers q.n k)) b)
+
+-- ---- the order of rational points: by their denominators, then by their coordinates
+
+abbrev key : rational.Point → List ℤ
+key p = p.d ∷ coordinates p.n
+
+abbrev pub ComesBefore : rational.Point → rational.Point → Type 0
+ComesBefore p q = IsBelow (key p) (key q)
+
+which_below : (xs ys : List ℤ) → IsBelow xs ys ⊎ ((xs ≡ ys) ⊎ IsBelow ys xs)
+which_below [] [] = inr (inl refl)
+which_below [] (y ∷ ys) = inl tt
+which_below (x ∷ xs) [] = inr (inr tt)
+which_below (x ∷ xs) (y ∷ ys) = step (int_cmp x y) (int_ranked x y (int_cmp x y) refl) (which_below xs ys)
+  where
+    step : (o : Ordering) → MatchOrdering o (x <ℤ y) (x ≡ y) (y <ℤ x) → IsBelow xs ys ⊎ ((xs ≡ ys) ⊎ IsBelow ys xs) → IsBelow (x ∷ xs) (y ∷ ys) ⊎ ((x ∷ xs ≡ y ∷ ys) ⊎ IsBelow (y ∷ ys) (x ∷ xs))
+    step Less m r = inl (inl m)
+    step Equal m (inl b) = inl (inr (m, b))
+    step Equal m (inr (inl e)) = inr (inl (ap₂ (λ (a : ℤ) (l : List ℤ). a ∷ l) m e))
+    step Equal m (inr (inr b)) = inr (inr (inr (sym m, b)))
+    step Greater m r = inr (inr (inl m))
+
+at_key : List ℤ → rational.Point
+at_key [] = record { n = column_of []; d = pos 0 }
+at_key (d ∷ n) = record { n = column_of n; d = d }
+
+which_before : (p q : rational.Point) → ComesBefore p q ⊎ ((p ≡ q) ⊎ ComesBefore q p)
+unfolding at_key
+which_before p q = ⊎_elim (λ b. inl b) (λ r. ⊎_elim (λ e. inr (inl (ap at_key e))) (λ b. inr (inr b)) r) (which_below (key p) (key q))
+
+-- the points of a list, in order
+pub in_order : (points : List rational.Point) → (sorted : List rational.Point) × AllPairs ComesBefore sorted × ((p : rational.Point) → Contains points p ↔ Contains sorted p)
+in_order points = sorted ComesBefore (λ p q r. below_on (key p) (key q) (key r)) which_before points
+
+pub below_over_one : (p q : rational.Point) → p.d ≡ q.d → ComesBefore p q → IsBelow (coordinates p.n) (coordinates q.n)
+below_over_one p q e (inl l) = absurd (omega (arith, ints))
+below_over_one p q e (inr r) = r.1

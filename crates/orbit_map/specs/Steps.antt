@@ -1,5 +1,5 @@
 -- What the steps of listing an orbit keep.
-use Rattle.std.specs.Prelude.{◌≡◌, ◌≤◌, ℕ, List, length}
+use Rattle.std.specs.Prelude.{◌≡◌}
 use Rattle.std.specs.Ordering.{on, then_cmp, int_cmp}
 use Rattle.std.specs.Cmp.Lexicographic.{slice_cmp}
 use Rattle.std.specs.declared.cmp.Ordering.{Ordering}
@@ -9,7 +9,6 @@ use Rattle.lattice_algebra.specs.Point as rational
 use Rattle.lattice_algebra.specs.Point.{◌≈◌, image}
 use Rattle.exact_ops.specs.declared.point.Point.{Point}
 use Rattle.exact_ops.specs.declared.TheConstants.{UNIT}
-use Rattle.exact_ops.specs.Numbers.{point_in}
 use Rattle.space_groups.specs.Space.{IsInCell}
 
 -- p is the image of x under a map of the operator, in the cell and over the denominator of x

@@ -1,4 +1,4 @@
-use Rattle.std.proofs.Common.{rules, is_lt, length, arith}
+use Rattle.std.proofs.Common.{rules, is_lt}
 use Rattle.std.proofs.lemmas.List.Sorted.{ranks_by, answers_always}
 use Rattle.exact_ops.specs.declared.point.Point.{Point}
 use Rattle.exact_ops.specs.Numbers.{point_in}
