@@ -22,7 +22,7 @@ use Rattle.exact_ops.proofs.Narrow.{some_parts}
 use Rattle.group_closure.specs.GroupList.{IsGroup}
 use Rattle.group_closure.proofs.Places.{contains_at, same_at}
 use Rattle.space_groups.specs.Space.{IsInSite}
-use Rattle.space_groups.proofs.Laws.{shift_exists}
+use Rattle.lattice_algebra.proofs.Maps.{shift_exists}
 use Rattle.site_symmetry.specs.OrderedSite.{SomeElementFixes}
 
 -- ---- maps of an operator

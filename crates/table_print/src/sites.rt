@@ -1,0 +1,98 @@
+ghost use Rattle.std.specs.Prelude.{◌≡◌, ◌≤◌, ◌++◌, OnOk, OnErr, IsErrOf};
+ghost use Rattle.std.specs.Io.KnownBytes.{Appends};
+ghost use Rattle.exact_ops.specs.Numbers.{point_in};
+ghost use Rattle.exact_ops.specs.Elements.{map_in};
+ghost use Rattle.sg_io.specs.Bytes.{AppendsFront};
+ghost use Rattle.sg_io.specs.Count.{Rose};
+ghost use Rattle.table_print.specs.Lines.{AreLines, SomeText};
+ghost use Rattle.table_print.specs.Sites.{counts_text, IsElementLine, IsPointLine, IsSiteText};
+
+use crate::line::Line;
+use exact_ops::{Move, Point};
+use itoa::Buffer;
+use orbit_map::parts::Orbit;
+use sg_io::{Sink, SinkStop, put_all};
+use site_symmetry::parts::Site;
+use triplet_text::{print_frac, print_move};
+
+/// Writes the lines of the command `site`: the order of a site-symmetry group and the multiplicity of its point, then each
+/// element, then each point of the orbit. It takes no memory.
+pub fn print_site<K: Sink>(s: &Site, o: &Orbit, sink: &mut K) -> Result<(), SinkStop>
+    ensures ok { OnOk result (SomeText (IsSiteText s.now o.now) (Appends (K.held sink.old) (K.held sink.new))) }
+    ensures err { OnErr result (SomeText (IsSiteText s.now o.now) (AppendsFront (K.held sink.old) (K.held sink.new))) }
+    ensures faults_later { K.faults sink.old ≤ K.faults sink.new }
+    ensures wants_later { K.wants sink.old ≤ K.wants sink.new }
+    ensures failed { IsErrOf result SinkStop.Failed → Rose (K.faults sink.old) (K.faults sink.new) }
+    ensures no_memory { IsErrOf result SinkStop.NoMemory → Rose (K.wants sink.old) (K.wants sink.new) }
+{
+    put_all(sink, counts(s.len(), o.len()).bytes())?;
+    print_elements(s, sink)?;
+    print_points(o, sink)
+}
+
+fn print_elements<K: Sink>(s: &Site, sink: &mut K) -> Result<(), SinkStop>
+    ensures ok { OnOk result (SomeText (AreLines IsElementLine s.now) (Appends (K.held sink.old) (K.held sink.new))) }
+    ensures err { OnErr result (SomeText (AreLines IsElementLine s.now) (AppendsFront (K.held sink.old) (K.held sink.new))) }
+    ensures faults_later { K.faults sink.old ≤ K.faults sink.new }
+    ensures wants_later { K.wants sink.old ≤ K.wants sink.new }
+    ensures failed { IsErrOf result SinkStop.Failed → Rose (K.faults sink.old) (K.faults sink.new) }
+    ensures no_memory { IsErrOf result SinkStop.NoMemory → Rose (K.wants sink.old) (K.wants sink.new) }
+{
+    for k in 0..s.len() {
+        let line = element_line(&s.get(k));
+        put_all(sink, line.bytes())?;
+    }
+    Ok(())
+}
+
+fn print_points<K: Sink>(o: &Orbit, sink: &mut K) -> Result<(), SinkStop>
+    ensures ok { OnOk result (SomeText (AreLines IsPointLine o.now) (Appends (K.held sink.old) (K.held sink.new))) }
+    ensures err { OnErr result (SomeText (AreLines IsPointLine o.now) (AppendsFront (K.held sink.old) (K.held sink.new))) }
+    ensures faults_later { K.faults sink.old ≤ K.faults sink.new }
+    ensures wants_later { K.wants sink.old ≤ K.wants sink.new }
+    ensures failed { IsErrOf result SinkStop.Failed → Rose (K.faults sink.old) (K.faults sink.new) }
+    ensures no_memory { IsErrOf result SinkStop.NoMemory → Rose (K.wants sink.old) (K.wants sink.new) }
+{
+    for k in 0..o.len() {
+        let line = point_line(&o.get(k));
+        put_all(sink, line.bytes())?;
+    }
+    Ok(())
+}
+
+fn counts(order: u16, multiplicity: u16) -> Line
+    ensures { result ≡ counts_text order multiplicity }
+{
+    let mut line = Line::new();
+    line.push(b"order ");
+    line.push(Buffer::new().format(order).as_bytes());
+    line.push(b"\nmultiplicity ");
+    line.push(Buffer::new().format(multiplicity).as_bytes());
+    line.push(b"\n");
+    line
+}
+
+fn element_line(element: &Move) -> Line
+    ensures { IsElementLine (map_in element.now) result }
+{
+    let mut line = Line::new();
+    line.push(b"fix ");
+    line.push(print_move(element).bytes());
+    line.push(b"\n");
+    line
+}
+
+fn point_line(point: &Point) -> Line
+    ensures { IsPointLine (point_in point.now) result }
+{
+    let [x, y, z] = point.n;
+    let mut line = Line::new();
+    line.push(b"at ");
+    line.push(print_frac(x, point.d).bytes());
+    line.push(b" ");
+    line.push(print_frac(y, point.d).bytes());
+    line.push(b" ");
+    line.push(print_frac(z, point.d).bytes());
+    line.push(b"\n");
+    line
+}
