@@ -1,4 +1,4 @@
 mod Images
-mod Group
 mod Order
 mod OrbitLists
+mod Counts
