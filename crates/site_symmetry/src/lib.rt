@@ -13,3 +13,6 @@ pub use laws::{
     one_ordered_site, site_of_image, site_of_point,
 };
 pub use sites::site;
+
+#[cfg(test)]
+mod tests;
