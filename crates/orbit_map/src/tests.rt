@@ -71,6 +71,18 @@ fn point_outside_comes_back_into_the_cell(rt: HostRuntime) -> Result<(), Fail> {
     Ok(())
 }
 
+fn multiplicity_of(g: &Group, c: Coordinates) -> Result<u16, Fail> {
+    Ok(multiplicity(g, &Point::of_coords(c).ok_or("out of range")?))
+}
+
+#[test]
+fn multiplicities_of_p1bar(rt: HostRuntime) -> Result<(), Fail> {
+    let g = group_of(rt.alloc(), &[INVERSION])?;
+    assert_eq!(rt; multiplicity_of(&g, [(0, 1), (0, 1), (0, 1)])?, 1);
+    assert_eq!(rt; multiplicity_of(&g, [(1, 10), (2, 10), (3, 10)])?, 2);
+    Ok(())
+}
+
 /// P 6/m m m
 fn hexagonal(alloc: Global) -> Result<Group, Fail> {
     let turn = ([1, -1, 0, 1, 0, 0, 0, 0, 1], [0, 0, 0]);
@@ -84,6 +96,7 @@ fn great_coordinates_and_denominators(rt: HostRuntime) -> Result<(), Fail> {
     let c = [(1_000_000_000, 1), (-1, 1_000_000), (333_333, 1_000_000)];
     let points = orbit_of(rt.alloc(), &g, c)?;
     assert_eq!(rt; points.len(), 12);
+    assert_eq!(rt; multiplicity_of(&g, c)?, 12);
     let first = [(0, 1), (1, 1_000_000), (333_333, 1_000_000)];
     assert!(rt; has_point(&points, 0, first));
     let last = [
