@@ -13,6 +13,16 @@ use Rattle.table_print.proofs.Lines.{one_line, lines_append, some_lines}
 take_one : {A : Type 0} (members : List A) (f : A) (i : ℕ) → slice_get members i ≡ Some f → take (i + 1) members ≡ take i members ++ f ∷ []
 take_one members f i e = take_more members i f (slice_get_within members i f e) ∙ ap (λ x. take i members ++ x ∷ []) (get_or_from_slice_get members i f f e)
 
+-- a front of a text is a front of a longer one
+pub front_longer : (old new : Option (List ℕ)) (text rest : List ℕ) → AppendsFront old new text → AppendsFront old new (text ++ rest)
+front_longer old new text rest front =
+    let more = front.1.0 in
+    (front.0, (more ++ rest, sym (append_assoc front.0 more rest) ∙ ap (λ (l : List ℕ). l ++ rest) front.1.1), front.2)
+
+-- a text, and a front of the next
+pub front_behind : (old mid new : Option (List ℕ)) (text next : List ℕ) → Appends old mid text → AppendsFront mid new next → AppendsFront old new (text ++ next)
+front_behind old mid new text next first front = (text ++ front.0, (front.1.0, append_assoc text front.0 front.1.0 ∙ ap (λ (l : List ℕ). text ++ l) front.1.1), Appends-trans old mid new text front.0 first front.2)
+
 module _ {A : Type 0} (IsLine : A → List ℕ → Type 0) (members : List A) where
   abbrev Lines : List A → List ℕ → Type 0
   Lines xs text = AreLines IsLine xs text
@@ -36,21 +46,12 @@ module _ {A : Type 0} (IsLine : A → List ℕ → Type 0) (members : List A) wh
       → SomeText (Lines members) (AppendsFront old new)
   printed_front each old mid new f line i before is p more =
       let done = before.0 in
-      let front = more.0 in
-      let rest = more.1.0 in
       let whole = take-append-drop (i + 1) members in
       let later = some_lines IsLine (drop (i + 1) members) (λ x c. each x (subst (λ xs. Contains xs x) whole (Contains-append_right (take (i + 1) members) (drop (i + 1) members) x c))) in
       let lines = lines_append IsLine (take (i + 1) members) (drop (i + 1) members) (done ++ line) later.0 (lines_one f line done i is p before.1) later.1 in (
         (done ++ line) ++ later.0,
         subst (λ xs. Lines xs ((done ++ line) ++ later.0)) whole lines,
-        (
-          done ++ front,
-          (
-            rest ++ later.0,
-            append_assoc done front (rest ++ later.0) ∙ ap (λ (l : List ℕ). done ++ l) (sym (append_assoc front rest later.0) ∙ ap (λ (l : List ℕ). l ++ later.0) more.1.1) ∙ sym (append_assoc done line later.0),
-          ),
-          Appends-trans old mid new done front before.2 more.2,
-        ),
+        front_longer old new (done ++ line) later.0 (front_behind old mid new done line before.2 more),
       )
 
   -- the lines of all members
