@@ -1,7 +1,7 @@
 -- Laws of Span, of group lists and of groups.
-use Rattle.std.proofs.Common.{◌≡◌, ℕ, ◌≤◌, ◌↔◌, List, [], ◌∷◌, length, drop, take, ◌++◌, sym, ap, ◌∙◌, subst, arith, inl, inr, All, Contains, IsPermutation, IsSorted, slice_get, suc}
+use Rattle.std.proofs.Common.{◌≡◌, ℕ, ◌≤◌, ◌↔◌, List, [], ◌∷◌, length, drop, take, ◌++◌, sym, ap, ◌∙◌, subst, arith, inl, inr, All, Contains, IsPermutation, IsSorted, slice_get, get_or, le_trans, suc}
 use Rattle.std.proofs.lemmas.List.{take_at}
-use Rattle.std.proofs.lemmas.List.Elements.{All-contains, All-weaker}
+use Rattle.std.proofs.lemmas.List.Elements.{All-contains, All-weaker, Contains-get_or}
 use Rattle.std.proofs.lemmas.List.Sorted.{Contains-permutation, IsPermutation-sym, length_permutation, All-permutation}
 use Rattle.std.proofs.lemmas.Map.Made.{IsDistinct-from_AllPairs, AllPairs-from_IsDistinct}
 use Rattle.std.proofs.lemmas.Map.Keys.{IsDistinct-IsPermutation}
@@ -99,16 +99,21 @@ list_of_generated generators ops sorted p moved f s =
       sorted = strict_from_sorted operator_cmp operator_cmp_total operator_ties (drop 1 sorted) cell_operators.one s (distinct_rest sorted d);
     }
 
--- the group list of operators whose Span is narrow and short is a group
-pub group_of_list : (generators ops : List Operator) → All IsNarrow generators → IsGroupList generators ops → All IsNarrow ops → length ops ≤ MAX_OPERATORS → IsGroup ops
-group_of_list generators ops v p n l = record {
-  first = p.first;
-  distinct = p.distinct;
-  closed = (closing.closed_from_span cell_operators generators ops (are_operators generators v) (IsDistinct-from_AllPairs cell_operators.same ops p.distinct) p.span).closed;
-  sorted = p.sorted;
-  narrow = n;
-  within = l;
-}
+-- the group list of operators that close is a group
+pub group_of_closing : (list ops : List Operator) → All (IsOperator UNIT) list → Closes list → IsGroupList list ops → IsGroup ops
+group_of_closing list ops v c p =
+    let distinct = IsDistinct-from_AllPairs cell_operators.same ops p.distinct in
+    let short : length ops ≤ length c.0 = members.pigeonhole cell_operators.eq cell_operators.same ops c.0 distinct (λ f m. c.2 f ((p.span f).0 m)) in
+    record {
+      first = p.first;
+      distinct = p.distinct;
+      closed = (closing.closed_from_span cell_operators list ops v distinct p.span).closed;
+      sorted = p.sorted;
+      narrow = λ k e l.
+          let s = (p.span (get_or ops k e)).0 (Contains-get_or ops k e l) in
+          record { is_operator = closing.valid_span cell_operators list v (get_or ops k e) s; within_two = c.3 (get_or ops k e) s };
+      within = le_trans short c.1;
+    }
 
 -- what holds of the generators holds of the list that they came from
 pub same_generators : (list generators : List Operator) → AreGenerators list generators → (f : Operator) → Contains generators f ↔ Contains list f
@@ -126,7 +131,7 @@ of_generated list generators made sorted g p m f s =
     let n = All-permutation IsNarrow made sorted m p.narrow in
     let l : length sorted ≤ MAX_OPERATORS = omega (arith, length_permutation made sorted m, p.within) in
     let h = same_list generators list sorted (same_generators list generators g) k in
-    record { listed = h; group = group_of_list generators sorted g.narrow k n l; closes = closes_by list sorted h.span l n }
+    record { listed = h; group = group_of_closing generators sorted (are_operators generators g.narrow) (closes_by generators sorted k.span l n) k; closes = closes_by list sorted h.span l n }
 
 -- the same of the lists that `close` lends to the functions that it calls
 pub group_of_sorted : (list collected lent made unsorted sorted : List Operator) (n : ℕ) → AreGenerators list collected → lent ≡ collected → IsGenerated lent made → unsorted ≡ made → length unsorted ≡ n → IsPermutation unsorted sorted → slice_get sorted 0 ≡ slice_get unsorted 0 → IsSorted operator_cmp (drop 1 sorted) → IsGroupOf list (take n (sorted ++ drop (length sorted) made))

@@ -1,4 +1,4 @@
 mod Images
 mod Order
-mod OrbitLists
+pub mod OrbitLists
 mod Counts

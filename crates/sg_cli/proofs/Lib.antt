@@ -1,3 +1,4 @@
+mod SitePoints
 pub mod Outcomes
 pub mod Unique
 pub mod WordsLists

@@ -13,17 +13,16 @@ use Rattle.group_closure.specs.declared.group.CloseFault.{CloseFault}
 use Rattle.group_closure.specs.declared.group.CloseFault.TheVariants as closes
 use Rattle.group_closure.specs.Words.{Closes, IsUnclosed}
 use Rattle.group_closure.specs.GroupList.{IsGroupList}
-use Rattle.table_print.specs.Lines.{SomeText}
 use Rattle.sg_cli.specs.declared.TheConstants.{MAX_INPUT}
 use Rattle.sg_cli.specs.declared.words.Command.{Command}
 use Rattle.sg_cli.specs.Words.{IsCommand}
 use Rattle.sg_cli.specs.declared.fault.Fault.{Fault}
 use Rattle.sg_cli.specs.declared.fault.Fault.TheVariants as fault
-use Rattle.sg_cli.specs.Fault.{status_of, fault_of_close, fault_of_write}
+use Rattle.sg_cli.specs.Fault.{status_of, fault_of_close}
 use Rattle.sg_cli.specs.Answer.{Printed, Refused, IsAnswer, IsTextFor}
 use Rattle.sg_cli.specs.Run.{before_writing, HasStatus, IsTold, Completes}
 use Rattle.sg_cli.specs.Seen.{SeenSource, SeenSink}
-use Rattle.sg_cli.specs.Serve.{Answers, Serves}
+use Rattle.sg_cli.specs.Serve.{Prints, Answers, Serves}
 use Rattle.sg_cli.proofs.Unique.{one_answer}
 
 IfSome-each : {A : Type 0} (o : Option A) (P : A → Type 0) → ((x : A) → P x) → IfSome o P
@@ -100,11 +99,10 @@ module _ {K : Type 0} (sink : SeenSink K) (command : Command) (bytes : List ℕ)
   not_closed closes.Unclosed h = (record { list = list; read = read; unclosed = h refl }, refl)
   not_closed closes.NoMemory h = inl refl
 
-  module _ (members : List Operator) (closed : Closes list) (group : IsGroupList list members) (new : K) where
-    pub printed : SomeText (IsTextFor command members) (Appends (sink.held old) (sink.held new)) → Answers sink command bytes old new (Ok tt)
-    printed p = (p.0, (members, record { list = list; read = read; closes = closed; group = group }, p.1), p.2)
-
-    pub not_printed : (stop : SinkStop) → SomeText (IsTextFor command members) (AppendsFront (sink.held old) (sink.held new)) → (stop ≡ sinks.Failed → Rose (sink.faults old) (sink.faults new)) → (stop ≡ sinks.NoMemory → Rose (sink.wants old) (sink.wants new))
-        → Answers sink command bytes old new (Err (fault_of_write stop))
-    not_printed sinks.Failed p failed no_memory = ((p.0, (members, record { list = list; read = read; closes = closed; group = group }, p.1), p.2), failed refl)
-    not_printed sinks.NoMemory p failed no_memory = inr (no_memory refl, (p.0, (members, record { list = list; read = read; closes = closed; group = group }, p.1), p.2))
+  -- what printing a text did is what answering did
+  pub answered : (members : List Operator) → Closes list → IsGroupList list members → (new : K) (result : Result (Unit {0}) Fault) → Prints sink (IsTextFor command members) old new result → Answers sink command bytes old new result
+  answered members closed group new (Ok done) p = (p.0, (members, record { list = list; read = read; closes = closed; group = group }, p.1), p.2)
+  answered members closed group new (Err fault.Writing) p = ((p.0.0, (members, record { list = list; read = read; closes = closed; group = group }, p.0.1), p.0.2), p.1)
+  answered members closed group new (Err fault.NoMemory) (inl same) = inl same
+  answered members closed group new (Err fault.NoMemory) (inr p) = inr (p.0, (p.1.0, (members, record { list = list; read = read; closes = closed; group = group }, p.1.1), p.1.2))
+  answered members closed group new (Err other) p = absurd p

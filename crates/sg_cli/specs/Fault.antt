@@ -1,5 +1,6 @@
 -- The status and the text of each fault.
 use Rattle.std.specs.Prelude.{List, ◌++◌, ℕ, codes, decimal}
+use Rattle.exact_ops.specs.declared.op_list.NoMemory as exact_ops
 use Rattle.sg_io.specs.declared.sink.SinkStop.{SinkStop}
 use Rattle.sg_io.specs.declared.sink.SinkStop.TheVariants as sinks
 use Rattle.sg_io.specs.declared.source.ReadStop.{ReadStop}
@@ -54,3 +55,7 @@ fault_of_close closes.NoMemory = NoMemory
 abbrev pub fault_of_write : SinkStop → Fault
 fault_of_write sinks.Failed = Writing
 fault_of_write sinks.NoMemory = NoMemory
+
+-- what want of memory is as a fault
+abbrev pub fault_of_want : exact_ops.NoMemory → Fault
+fault_of_want want = NoMemory

@@ -3,6 +3,7 @@ use Rattle.std.specs.Prelude.{◌≡◌, ◌⊎◌, ◌+◌, List, ℕ, Result, 
 use Rattle.std.specs.Io.KnownBytes.{Appends, IsAtEnd}
 use Rattle.sg_io.specs.Count.{Rose}
 use Rattle.sg_io.specs.Bytes.{AppendsFront, ConsumesSome}
+use Rattle.table_print.specs.Lines.{SomeText}
 use Rattle.sg_cli.specs.declared.TheConstants.{MAX_INPUT}
 use Rattle.sg_cli.specs.declared.fault.Fault.{Fault}
 use Rattle.sg_cli.specs.declared.fault.Fault.TheVariants as fault
@@ -18,6 +19,13 @@ PrintsSuch command bytes IsSuch = (text : List ℕ) × IsAnswerTo command bytes 
 
 module _ {K : Type 0} (sink : SeenSink K) where
   open sink use {held, faults, wants}
+
+  -- what printing a text did to the output
+  abbrev pub Prints : (List ℕ → Type 0) → K → K → Result (Unit {0}) Fault → Type 0
+  Prints IsText old new (Ok done) = SomeText IsText (Appends (held old) (held new))
+  Prints IsText old new (Err fault.Writing) = SomeText IsText (AppendsFront (held old) (held new)) × Rose (faults old) (faults new)
+  Prints IsText old new (Err fault.NoMemory) = (new ≡ old) ⊎ (Rose (wants old) (wants new) × SomeText IsText (AppendsFront (held old) (held new)))
+  Prints IsText old new (Err other) = ⊥
 
   -- what answering a command did to the output
   abbrev pub Answers : Command → List ℕ → K → K → Result (Unit {0}) Fault → Type 0

@@ -7,16 +7,18 @@ ghost use Rattle.sg_cli.specs.declared.fault.Fault.{Fault};
 ghost use Rattle.sg_cli.specs.Answer.{Answer, IsAnswer, IsTextFor};
 ghost use Rattle.sg_cli.specs.Fault.{status_of, text_of};
 ghost use Rattle.sg_cli.specs.Run.{IsDecided, IsRefusal, IsReadToEnd, before_writing, HasStatus, IfPrinted, IfRefused, IsTold, Completes};
-ghost use Rattle.sg_cli.specs.Serve.{Answers, Serves};
+ghost use Rattle.sg_cli.specs.Serve.{Prints, Answers, Serves};
 ghost use Rattle.sg_cli.specs.Words.{IsNoCommand, texts};
 
 use crate::MAX_INPUT;
 use crate::fault::Fault;
 use crate::words::{Command, read_words};
 use group_closure::Group;
-use sg_io::{Sink, SinkStop, Source, put_all, read_all};
+use orbit_map::orbit;
+use sg_io::{Sink, Source, put_all, read_all};
+use site_symmetry::site;
 use std::alloc::Global;
-use table_print::{print_ops, print_types};
+use table_print::{print_ops, print_site, print_types};
 use triplet_text::read_lines;
 
 /// Words and bytes have one answer at most.
@@ -38,21 +40,29 @@ fn print_answer<K: Sink>(
 {
     let list = read_lines(alloc, bytes)?;
     let group = Group::close(alloc, &list)?;
-    print_text(command, &group, out)?;
-    Ok(())
+    print_text(alloc, command, &group, out)
 }
 
-/// Prints what the command asks of the group.
-fn print_text<K: Sink>(command: Command, group: &Group, out: &mut K) -> Result<(), SinkStop>
-    ensures ok { OnOk result (SomeText (IsTextFor command group.now) (Appends (K.held out.old) (K.held out.new))) }
-    ensures err { OnErr result (SomeText (IsTextFor command group.now) (AppendsFront (K.held out.old) (K.held out.new))) }
-    ensures failed { IsErrOf result SinkStop.Failed → Rose (K.faults out.old) (K.faults out.new) }
-    ensures no_memory { IsErrOf result SinkStop.NoMemory → Rose (K.wants out.old) (K.wants out.new) }
+/// Prints what the command asks of the group. All memory is taken before the first byte is written.
+fn print_text<K: Sink>(
+    alloc: Global,
+    command: Command,
+    group: &Group,
+    out: &mut K,
+) -> Result<(), Fault>
+    ensures { Prints (record { held = K.held; faults = K.faults; wants = K.wants })
+        (IsTextFor command group.now) out.old out.new result }
 {
     match command {
-        Command::Ops => print_ops(group, out),
-        Command::Types => print_types(group, out),
+        Command::Ops => print_ops(group, out)?,
+        Command::Types => print_types(group, out)?,
+        Command::Site(point) => {
+            let site = site(alloc, group, &point)?;
+            let orbit = orbit(alloc, group, &point)?;
+            print_site(&site, &orbit, out)?;
+        }
     }
+    Ok(())
 }
 
 /// Reads the words and the source, and prints the answer.

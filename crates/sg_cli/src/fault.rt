@@ -1,6 +1,7 @@
 ghost use Rattle.std.specs.Prelude.{◌≡◌};
-ghost use Rattle.sg_cli.specs.Fault.{fault_of_read, fault_of_lines, fault_of_close, fault_of_write, status_of, text_of};
+ghost use Rattle.sg_cli.specs.Fault.{fault_of_read, fault_of_lines, fault_of_close, fault_of_write, fault_of_want, status_of, text_of};
 
+use exact_ops::NoMemory;
 use group_closure::CloseFault;
 use itoa::Buffer;
 use sg_io::{ReadStop, SinkStop};
@@ -115,5 +116,13 @@ impl From<SinkStop> for Fault {
             SinkStop::Failed => Fault::Writing,
             SinkStop::NoMemory => Fault::NoMemory,
         }
+    }
+}
+
+impl From<NoMemory> for Fault {
+    ghost from_gives = { λ want fault. fault ≡ fault_of_want want };
+
+    fn from(_: NoMemory) -> Fault {
+        Fault::NoMemory
     }
 }

@@ -14,7 +14,7 @@ mod Bounds
 mod Totals
 mod Cuts
 mod Rows
-mod CoordinateLaw
+pub mod CoordinateLaw
 pub mod LowestTerms
 mod Printed
 mod SignedTerms

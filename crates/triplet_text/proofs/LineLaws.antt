@@ -1,12 +1,14 @@
 -- The lines decide the answer: what is read is one list, and the first bad line is one line, of one kind.
-use Rattle.std.proofs.Common.{◌≡◌, ℕ, suc, ◌+◌, List, [], ◌∷◌, ◌++◌, length, inl, inr, sym, ap, subst, ◌∙◌, refl}
-use Rattle.std.specs.List.{AllByRecursion}
-use Rattle.std.proofs.lemmas.List.Elements.{recursion_from_All}
+use Rattle.std.proofs.Common.{◌≡◌, ℕ, suc, ◌+◌, List, [], ◌∷◌, ◌++◌, length, inl, inr, sym, ap, subst, ◌∙◌, refl, arith}
+use Rattle.std.specs.List.{All, AllByRecursion}
+use Rattle.std.proofs.lemmas.List.Elements.{recursion_from_All, All-nil, All-cons}
 use Rattle.exact_ops.specs.Matrix.{IsUnimodular}
-use Rattle.exact_ops.specs.Operator.{Operator}
+use Rattle.exact_ops.specs.Operator.{Operator, IsOperator, AreParts}
+use Rattle.exact_ops.specs.declared.TheConstants.{UNIT}
 use Rattle.triplet_text.specs.declared.lines.LineFault.{LineFault}
 use Rattle.triplet_text.specs.declared.lines.LineFault.TheVariants.{Unreadable, NotUnimodular, NoMemory}
-use Rattle.triplet_text.specs.Lines.{IsGood, AreRead, end, skipped, read, IsFirstBad, IsFaultOf, IsUnreadable, IsNotUnimodular}
+use Rattle.triplet_text.specs.Lines.{IsRead, IsGood, AreRead, end, skipped, read, IsFirstBad, IsFaultOf, IsUnreadable, IsNotUnimodular}
+use Rattle.lattice_algebra.proofs.Remainders.{modulo_parts}
 use Rattle.triplet_text.proofs.GrammarLaw.{one_operator}
 use Rattle.triplet_text.proofs.LineSteps.{good_lines}
 
@@ -85,3 +87,14 @@ same_fault lines (NotUnimodular j) (Unreadable k) f g m n = absurd (both_kinds l
 same_fault lines (NotUnimodular j) (NotUnimodular k) f g m n = ap NotUnimodular (same_place IsNotUnimodular IsNotUnimodular lines j k not_unimodular_are_bad not_unimodular_are_bad f g).0
 same_fault lines (NotUnimodular j) NoMemory f g m n = absurd (n refl)
 same_fault lines NoMemory b f g m n = absurd (m refl)
+
+-- ---- what is read is an operator
+
+operator_of_line : (line : List ℕ) (f : Operator) → IsRead line f → IsOperator UNIT f
+operator_of_line line f r = record { unimodular = r.unimodular; in_cell = subst (AreParts UNIT) (sym r.triplet.sums.translation) (modulo_parts UNIT (omega arith) _) }
+
+pub read_are_operators : (lines : List (List ℕ)) (list : List Operator) → AreRead lines list → All (IsOperator UNIT) list
+read_are_operators [] [] end = All-nil (IsOperator UNIT)
+read_are_operators [] (f ∷ list) x = elim x [ ]
+read_are_operators (line ∷ lines) list (skipped s more) = read_are_operators lines list more
+read_are_operators (line ∷ lines) (f ∷ list) (read r more) = All-cons (IsOperator UNIT) f list (operator_of_line line f r) (read_are_operators lines list more)

@@ -6,6 +6,8 @@ mod calls;
 #[cfg(test)]
 mod ops;
 #[cfg(test)]
+mod sites;
+#[cfg(test)]
 mod streams;
 #[cfg(test)]
 mod types;

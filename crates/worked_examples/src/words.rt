@@ -3,7 +3,7 @@ use std::test::Fail;
 
 #[test]
 fn words_that_are_no_command_leave_the_input_unread(rt: HostRuntime) -> Result<(), Fail> {
-    let calls: [&[&str]; 17] = [
+    let calls: [&[&str]; 23] = [
         &[],
         &["ops", "ops"],
         &["help"],
@@ -21,6 +21,12 @@ fn words_that_are_no_command_leave_the_input_unread(rt: HostRuntime) -> Result<(
         &["ops", ""],
         &["types", "types"],
         &["type"],
+        &["site"],
+        &["site", "0", "0"],
+        &["site", "0", "0", "0", "0"],
+        &["site", "1000000001", "0", "0"],
+        &["site", "0", "1/1000001", "0"],
+        &["site", "0", "0", "1e3"],
     ];
     for words in calls {
         let answered = ask(rt.alloc(), words, b"x,y,z\n-x,-y,-z\n")?;

@@ -1,6 +1,6 @@
 use Rattle.std.proofs.Common.{Err, ap, ◌∙◌}
 use Rattle.std.proofs.lemmas.Result.{err_from_is_err_and}
-use Rattle.sg_cli.proofs.Outcomes.{not_closed, printed, not_printed}
+use Rattle.sg_cli.proofs.Outcomes.{not_closed, answered}
 use Rattle.sg_cli.proofs.answer.print_answer.Goals as goal
 
 pub returns-in_err-group : goal.returns-in_err-group
@@ -8,14 +8,7 @@ returns-in_err-group g c =
     let p = err_from_is_err_and c.from_residual-in_err-group.result c.from_residual-in_err-group.ensures.1 in
     rw (p.1 ∙ ap Err p.2) (not_closed (record { held = g.K.Sink.held; faults = g.K.Sink.faults; wants = g.K.Sink.wants }) c.args.command c.args.bytes.now c.args.out.now c.in_ok-list.list c.in_ok-list.ensures.ok c.in_err-group.field-0.0 (λ e. c.in_err-group.ensures.unclosed (ap Err e)))
 
-pub returns-in_err-print_text : goal.returns-in_err-print_text
-returns-in_err-print_text g c =
-    let p = err_from_is_err_and c.from_residual-in_err-print_text.result c.from_residual-in_err-print_text.ensures.1 in
-    rw (p.1 ∙ ap Err p.2) (not_printed (record { held = g.K.Sink.held; faults = g.K.Sink.faults; wants = g.K.Sink.wants }) c.args.command c.args.bytes.now c.args.out.now c.in_ok-list.list
-    c.in_ok-list.ensures.ok c.in_ok-group.group c.in_ok-group.ensures.closes c.in_ok-group.ensures.ok c.print_text.new.out c.in_err-print_text.field-0.0
-    c.in_err-print_text.ensures.err (λ e. c.in_err-print_text.ensures.failed (ap Err e)) (λ e. c.in_err-print_text.ensures.no_memory (ap Err e)))
-
 pub returns : goal.returns
-returns g c = printed (record { held = g.K.Sink.held; faults = g.K.Sink.faults; wants = g.K.Sink.wants }) c.args.command c.args.bytes.now c.args.out.now c.in_ok-list.list
+returns g c = answered (record { held = g.K.Sink.held; faults = g.K.Sink.faults; wants = g.K.Sink.wants }) c.args.command c.args.bytes.now c.args.out.now c.in_ok-list.list
     c.in_ok-list.ensures.ok c.in_ok-group.group c.in_ok-group.ensures.closes c.in_ok-group.ensures.ok c.print_text.new.out
-    c.in_ok-print_text.ensures.ok
+    c.print_text.result c.print_text.ensures
