@@ -66,7 +66,7 @@ same_range f s p q h k e =
 
 IsImage-shifted : (f : Operator) (r s : List ℤ) (p : Point) → IsPoint p → point_with r p.d ≈ image UNIT (map_of f) p → IsImage f s p (shifted_point r s p.d)
 IsImage-shifted f r s p h e =
-    let g = image-shifted UNIT f.w f.t (column_of s) (column_of r) p e in
+    let g = image-shifted UNIT f (column_of s) (column_of r) p e in
     record { denominator = refl; equal = g; range = same_range f s p (shifted_point r s p.d) h h g }
 
 pub applied : (f : Operator) (r s : List ℤ) (p : Point) (x y z : ℤ) → IsPointInRange p → point_with r p.d ≈ image UNIT (map_of f) p → HasCoordinatesWithin (7 * MAX_COORDINATE) (point_with r p.d) → IsShiftInRange (column_of s)

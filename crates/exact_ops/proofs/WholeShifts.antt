@@ -34,7 +34,7 @@ shift_is w k s x y z h l m n e f g = λ i. record {
 
 IsShift-carry : (f g : Operator) (s : List ℤ) (k : Column) → f.w ·ᶜ g.t +ᶜ f.t ≡ modulo UNIT (f.w ·ᶜ g.t +ᶜ f.t) +ᶜ times (pos UNIT) k → IsShift UNIT (map_of f ∘ map_with g s) (f.w ·ᶜ column_of s +ᶜ k)
 unfolding ◌∘◌
-IsShift-carry f g s k e = IsShift-first UNIT some_parts (map_of f) g.w g.t k (column_of s) e
+IsShift-carry f g s k e = IsShift-first UNIT some_parts (map_of f) g k (column_of s) e
 
 pub turned_shift : (f g a b : Operator) (k : Column) (s : List ℤ) (x y z : ℤ) → f ≡ a → g ≡ b → IsNarrow f → f.w ·ᶜ g.t +ᶜ f.t ≡ modulo UNIT (f.w ·ᶜ g.t +ᶜ f.t) +ᶜ times (pos UNIT) k → AreWithin 7 k.x k.y k.z → IsShiftInRange (column_of s) → AreWithin (7 * MAX_SHIFT) x y z
     → IsTurned f.w.xx f.w.xy f.w.xz k.x s x → IsTurned f.w.yx f.w.yy f.w.yz k.y s y → IsTurned f.w.zx f.w.zy f.w.zz k.z s z → IsShift UNIT (map_of a ∘ map_with b s) (column_of (back w64 x ∷ back w64 y ∷ back w64 z ∷ []))
@@ -65,7 +65,7 @@ sums_are r s h k = λ i. record {
 }
 
 pub IsShift-sums : (f g : Operator) (r s t : List ℤ) → IsShift UNIT (map_of f ∘ map_with g t) (column_of r) → AreWithin (7 * MAX_SHIFT) (at r 0) (at r 1) (at r 2) → IsShiftInRange (column_of s) → IsShift UNIT (map_with f s ∘ map_with g t) (column_of (sums r s))
-IsShift-sums f g r s t e h k = subst (IsShift UNIT (map_with f s ∘ map_with g t)) (sym (sums_are r s h k)) (IsShift-next UNIT some_parts (map_with g t) f.w f.t (column_of r) (column_of s) e)
+IsShift-sums f g r s t e h k = subst (IsShift UNIT (map_with f s ∘ map_with g t)) (sym (sums_are r s h k)) (IsShift-next UNIT some_parts (map_with g t) f (column_of r) (column_of s) e)
 
 -- the test of the computed shift is that of the product's
 pub shift_test : (f g : Operator) (l s t : List ℤ) (b : Bool) → IsShift UNIT (map_with f s ∘ map_with g t) (column_of l) → IsTrue b ↔ IsShiftInRange (column_of l) → (k : Column) → IsShift UNIT (map_with f s ∘ map_with g t) k → IsTrue b ↔ IsShiftInRange k

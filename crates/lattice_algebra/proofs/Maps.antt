@@ -142,9 +142,9 @@ join_shifts u c j k =
 shift_first : (u : ℤ) (w : Matrix) (t s j k : Column) → w ·ᶜ (s +ᶜ times u k) +ᶜ (t +ᶜ times u j) ≡ w ·ᶜ s +ᶜ t +ᶜ times u (w ·ᶜ k +ᶜ j)
 shift_first u w t s j k = absorb_left-column u (w ·ᶜ (s +ᶜ times u k)) t j ∙ ap (λ c. c +ᶜ times u j) (absorb_right-column u w t s k) ∙ join_shifts u (w ·ᶜ s +ᶜ t) (w ·ᶜ k) j
 
--- the map of W and t with whole shifts
-abbrev pub with_shift : ℕ → Matrix → Column → Column → Map
-with_shift unit w t k = record { w = w; s = t +ᶜ times (pos unit) k }
+-- the map of an operator with whole shifts
+abbrev pub shifted : ℕ → Operator → Column → Map
+shifted unit f k = record { w = f.w; s = f.t +ᶜ times (pos unit) k }
 
 module _ (unit : ℕ) (some : 0 < unit) where
   pub shift_exists : (g : Map) → (k : Column) × IsShift unit g k
@@ -160,18 +160,28 @@ module _ (unit : ℕ) (some : 0 < unit) where
       ∙ ap (λ c. c +ᶜ times (pos unit) (j +ᶜ k)) (sym (modulo_same unit some h.s g.s k e))
 
   -- whole shifts of the first map are turned, and those of the next are added
-  pub IsShift-first : (g : Map) (w : Matrix) (t j k : Column) → IsShift unit (g ∘ (record { w = w; s = t })) j → IsShift unit (g ∘ with_shift unit w t k) (g.w ·ᶜ k +ᶜ j)
+  pub IsShift-first : (g : Map) (f : Operator) (j k : Column) → IsShift unit (g ∘ map_of f) j → IsShift unit (g ∘ shifted unit f k) (g.w ·ᶜ k +ᶜ j)
   unfolding ◌∘◌
-  IsShift-first g w t j k p = subst (IsShift unit (g ∘ with_shift unit w t k)) (swap_columns j (g.w ·ᶜ k)) (IsShift-more (g ∘ (record { w = w; s = t })) (g ∘ with_shift unit w t k) j (g.w ·ᶜ k) (absorb_right-column (pos unit) g.w g.s t k) p)
+  IsShift-first g f j k p = subst (IsShift unit (g ∘ shifted unit f k)) (swap_columns j (g.w ·ᶜ k)) (IsShift-more (g ∘ map_of f) (g ∘ shifted unit f k) j (g.w ·ᶜ k) (absorb_right-column (pos unit) g.w g.s f.t k) p)
 
-  pub IsShift-next : (f : Map) (w : Matrix) (t j k : Column) → IsShift unit ((record { w = w; s = t }) ∘ f) j → IsShift unit (with_shift unit w t k ∘ f) (j +ᶜ k)
+  pub IsShift-next : (f : Map) (g : Operator) (j k : Column) → IsShift unit (map_of g ∘ f) j → IsShift unit (shifted unit g k ∘ f) (j +ᶜ k)
   unfolding ◌∘◌
-  IsShift-next f w t j k p = IsShift-more ((record { w = w; s = t }) ∘ f) (with_shift unit w t k ∘ f) j k (absorb_left-column (pos unit) (w ·ᶜ f.s) t k) p
+  IsShift-next f g j k p = IsShift-more (map_of g ∘ f) (shifted unit g k ∘ f) j k (absorb_left-column (pos unit) (g.w ·ᶜ f.s) g.t k) p
 
   -- the product of two operators with whole shifts
-  pub product-shifted : (g f : Operator) (j k l : Column) → IsShift unit (with_shift unit g.w g.t j ∘ with_shift unit f.w f.t k) l
-      → with_shift unit (product unit g f).w (product unit g f).t l ≡ with_shift unit g.w g.t j ∘ with_shift unit f.w f.t k
+  pub product-shifted : (g f : Operator) (j k l : Column) → IsShift unit (shifted unit g j ∘ shifted unit f k) l → shifted unit (product unit g f) l ≡ shifted unit g j ∘ shifted unit f k
   unfolding ◌∘◌ product
   product-shifted g f j k l p =
       let same = modulo_same unit some _ _ (g.w ·ᶜ k +ᶜ j) (shift_first (pos unit) g.w g.t f.t j k) in
       map_path _ _ refl (ap (λ c. c +ᶜ times (pos unit) l) (sym same) ∙ sym p)
+
+  -- the maps of an operator
+  pub operator_of-shifted : (f : Operator) (k : Column) → IsOperator unit f → operator_of unit (shifted unit f k) ≡ f
+  unfolding operator_of
+  operator_of-shifted f k h = operator_path _ _ refl (modulo_same unit some _ f.t k refl ∙ modulo_part unit some f.t h.in_cell)
+
+  pub shift_of : (f : Operator) (g : Map) → operator_of unit g ≡ f → (k : Column) × (g ≡ shifted unit f k)
+  unfolding operator_of
+  shift_of f g e =
+      let k = shift_exists g in
+      (k.0, map_path g (shifted unit f k.0) (ap (λ (h : Operator). h.w) e) (k.1 ∙ ap (λ (h : Operator). h.t +ᶜ times (pos unit) k.0) e))

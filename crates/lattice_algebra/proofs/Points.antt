@@ -4,12 +4,14 @@ use Rattle.std.proofs.lemmas.Int.{ints, unsigned_abs-mul}
 use Rattle.std.proofs.Math.Nat.{le_of_mul-le-mul_left}
 use lib.IntN.{*ℤ_comm}
 use Rattle.lattice_algebra.specs.Matrix.{Matrix, Column, entries, coordinates, ◌·ᶜ◌, ◌+ᶜ◌, times}
-use Rattle.lattice_algebra.specs.Map.{Map}
+use Rattle.lattice_algebra.specs.Operator.{Operator}
+use Rattle.lattice_algebra.specs.Map.{Map, map_of}
 use Rattle.lattice_algebra.specs.Point.{Point, IsPoint, ◌≈◌, image, HasCoordinatesWithin}
 use Rattle.lattice_algebra.proofs.Ring.{var, ◌⊗◌}
 use Rattle.lattice_algebra.proofs.MatrixRing.{matrix_at, column_at, ◌·ˢᶜ◌, ◌+ˢᶜ◌, sym_times, column_ring}
 use Rattle.lattice_algebra.proofs.Numbers.{above, positive_product}
 use Rattle.lattice_algebra.proofs.Columns.{cancel_column, swap_times}
+use Rattle.lattice_algebra.proofs.Maps.{shifted}
 
 pub ≈_refl : (p : Point) → p ≈ p
 ≈_refl p = refl
@@ -67,10 +69,9 @@ shifted_columns a t k n u d e =
     ∙ ap (λ v. v +ᶜ times (u *ℤ (d *ℤ d)) k) e
     ∙ column_ring (u ∷ d ∷ (coordinates k ++ (coordinates a ++ coordinates t))) (sym_times D (A +ˢᶜ sym_times D T) +ˢᶜ sym_times (U ⊗ (D ⊗ D)) K) (sym_times D (A +ˢᶜ sym_times D (T +ˢᶜ sym_times U K))) tt
 
-pub image-shifted : (unit : ℕ) (w : Matrix) (t k n : Column) (p : Point) → record { n = n; d = p.d } ≈ image unit (record { w = w; s = t }) p
-    → record { n = n +ᶜ times p.d k; d = p.d } ≈ image unit (record { w = w; s = t +ᶜ times (pos unit) k }) p
+pub image-shifted : (unit : ℕ) (f : Operator) (k n : Column) (p : Point) → record { n = n; d = p.d } ≈ image unit (map_of f) p → record { n = n +ᶜ times p.d k; d = p.d } ≈ image unit (shifted unit f k) p
 unfolding image
-image-shifted unit w t k n p e = shifted_columns (times (pos unit) (w ·ᶜ p.n)) t k n (pos unit) p.d e
+image-shifted unit f k n p e = shifted_columns (times (pos unit) (f.w ·ᶜ p.n)) f.t k n (pos unit) p.d e
 
 -- the size of a coordinate is that of the point
 size_over : (s a b x y : ℕ) → 0 < a → b * x ≡ a * y → x ≤ s * a → y ≤ s * b

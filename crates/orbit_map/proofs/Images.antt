@@ -1,54 +1,22 @@
 -- The image of a point, moved into the cell.
-use Rattle.std.proofs.Common.{◌≡◌, ◌∷◌, ◌++◌, ◌*◌, ◌^◌, ◌<◌, ◌≤◌, [], ℕ, List, ℤ, pos, negsuc, ◌*ℤ◌, ◌<ℤ◌, unsigned_abs, ap, ap₂, sym, ◌∙◌, subst, refl, arith, mul-le-mul, le_refl, le_trans}
+use Rattle.std.proofs.Common.{◌≡◌, ◌∷◌, ◌*◌, ◌^◌, ◌<◌, ◌≤◌, [], ℕ, List, ℤ, pos, negsuc, ◌*ℤ◌, ◌<ℤ◌, unsigned_abs, ap, ap₂, sym, ◌∙◌, subst, refl, arith, mul-le-mul, le_refl, le_trans}
 use Rattle.std.proofs.lemmas.Int.{ints}
 use mir.Syntax.{w128}
 use Rattle.std.specs.Int.{int_rem_euclid}
-use Rattle.lattice_algebra.specs.Matrix.{Column, coordinates, column_of, ◌·ᶜ◌, ◌+ᶜ◌, times}
+use Rattle.lattice_algebra.specs.Matrix.{Column, column_of, ◌+ᶜ◌, times}
 use Rattle.lattice_algebra.specs.Operator.{Operator, IsOperator, IsPart, modulo}
-use Rattle.lattice_algebra.specs.Map.{Map, operator_of, map_of}
+use Rattle.lattice_algebra.specs.Map.{map_of}
 use Rattle.lattice_algebra.specs.Point as rational
 use Rattle.lattice_algebra.specs.Point.{◌≈◌, image, HasCoordinatesWithin}
-use Rattle.lattice_algebra.proofs.Ring.{var, ◌⊗◌}
-use Rattle.lattice_algebra.proofs.MatrixRing.{column_at, ◌+ˢᶜ◌, sym_times, column_ring}
 use Rattle.lattice_algebra.proofs.Machine.{back, kept}
-use Rattle.lattice_algebra.proofs.Maps.{operator_path}
-use Rattle.lattice_algebra.proofs.Remainders.{rem_is, modulo_is, modulo_same, modulo_part, modulo_parts}
+use Rattle.lattice_algebra.proofs.Maps.{shifted, operator_of-shifted}
+use Rattle.lattice_algebra.proofs.Points.{≈_sym, image-shifted}
+use Rattle.lattice_algebra.proofs.Remainders.{rem_is, modulo_is, modulo_parts}
 use Rattle.exact_ops.specs.declared.TheConstants.{UNIT, MAX_COORDINATE, MAX_DENOMINATOR}
 use Rattle.exact_ops.specs.Points.{point_with, IsPointInRange}
 use Rattle.exact_ops.proofs.Narrow.{some_parts}
 use Rattle.space_groups.specs.Space.{IsInCell}
 use Rattle.orbit_map.specs.Steps.{IsPlaced}
-
--- ---- a map of the operator that moves the image by whole cells
-
-abbrev shifted : Operator → Column → Map
-shifted f k = record { w = f.w; s = f.t +ᶜ times (pos UNIT) k }
-
-operator_of-shifted : (f : Operator) (k : Column) → IsOperator UNIT f → operator_of UNIT (shifted f k) ≡ f
-unfolding operator_of
-operator_of-shifted f k o = operator_path _ f refl (modulo_same UNIT some_parts (f.t +ᶜ times (pos UNIT) k) f.t k refl ∙ modulo_part UNIT some_parts f.t o.in_cell)
-
-split_image : (m t k : Column) (u d : ℤ) → times d (times u m +ᶜ times d (t +ᶜ times u k)) ≡ times d (times u m +ᶜ times d t) +ᶜ times (u *ℤ d) (times d k)
-unfolding ◌+ᶜ◌ times
-split_image m t k u d =
-    let U = var 0 in
-    let D = var 1 in
-    let M = column_at 2 in
-    let T = column_at 5 in
-    let K = column_at 8 in
-    column_ring (u ∷ d ∷ (coordinates m ++ (coordinates t ++ coordinates k)))
-    (sym_times D (sym_times U M +ˢᶜ sym_times D (T +ˢᶜ sym_times U K)))
-    (sym_times D (sym_times U M +ˢᶜ sym_times D T) +ˢᶜ sym_times (U ⊗ D) (sym_times D K)) tt
-
-split_sum : (r k : Column) (d e : ℤ) → times e (r +ᶜ times d k) ≡ times e r +ᶜ times e (times d k)
-unfolding ◌+ᶜ◌ times
-split_sum r k d e = column_ring (d ∷ e ∷ (coordinates r ++ coordinates k)) (sym_times (var 1) (column_at 2 +ˢᶜ sym_times (var 0) (column_at 5))) (sym_times (var 1) (column_at 2) +ˢᶜ sym_times (var 1) (sym_times (var 0) (column_at 5))) tt
-
--- as the image by the map of the operator moves, so does the image by the other map
-image-shifted : (f : Operator) (x : rational.Point) (r k : Column) → record { n = r; d = x.d } ≈ image UNIT (map_of f) x → image UNIT (shifted f k) x ≈ record { n = r +ᶜ times x.d k; d = x.d }
-unfolding image
-image-shifted f x r k e =
-    split_image (f.w ·ᶜ x.n) f.t k (pos UNIT) x.d ∙ ap (λ v. v +ᶜ times (pos UNIT *ℤ x.d) (times x.d k)) (sym e) ∙ sym (split_sum r k x.d (pos UNIT *ℤ x.d))
 
 -- ---- numbers that the machine keeps
 
@@ -102,12 +70,12 @@ placed f x r a b c o g e w i j k =
     let y : rational.Point = record { n = modulo n (column_of r); d = pos n } in
     let is : point_with (back w128 a ∷ back w128 b ∷ back w128 c ∷ []) (back w128 x.d) ≡ y = reduced_point n x r a b c z.1 g z.2 w i j k in
     let m = modulo_is n z.1 (column_of r) in
-    let moved : image UNIT (shifted f m.0) x ≈ record { n = column_of r +ᶜ times x.d m.0; d = x.d } = image-shifted f x (column_of r) m.0 e in
+    let moved : image UNIT (shifted UNIT f m.0) x ≈ record { n = column_of r +ᶜ times x.d m.0; d = x.d } = ≈_sym (record { n = column_of r +ᶜ times x.d m.0; d = x.d }) (image UNIT (shifted UNIT f m.0) x) (image-shifted UNIT f m.0 (column_of r) x e) in
     let there : record { n = column_of r +ᶜ times x.d m.0; d = x.d } ≡ y = λ v. record { n = (ap (λ q. column_of r +ᶜ times q m.0) z.2 ∙ sym m.1) v; d = z.2 v } in
     record {
       denominator = ap (λ (q : rational.Point). q.d) is ∙ sym z.2;
       in_cell = subst IsInCell (sym is) (in_cell_modulo n z.1 (column_of r));
-      by = shifted f m.0;
-      operator = operator_of-shifted f m.0 o;
-      is_image = subst (λ q. image UNIT (shifted f m.0) x ≈ q) (there ∙ sym is) moved;
+      by = shifted UNIT f m.0;
+      operator = operator_of-shifted UNIT some_parts f m.0 o;
+      is_image = subst (λ q. image UNIT (shifted UNIT f m.0) x ≈ q) (there ∙ sym is) moved;
     }

@@ -1,20 +1,18 @@
 -- Which whole shifts of an operator fix a point: those by (n - r) / d, where r / d is the image of the point n / d.
-use Rattle.std.proofs.Common.{◌≡◌, ◌++◌, ◌∷◌, [], ◌≤◌, ◌+◌, ◌*◌, ◌^◌, ◌↔◌, ℕ, ℤ, pos, ◌+ℤ◌, ◌-ℤ◌, ◌*ℤ◌, ◌<ℤ◌, ◌≤ℤ◌, unsigned_abs, List, Some, slice_get, Contains, w64, ap, sym, subst, refl, ◌∙◌, arith, FitsSigned, mul-le-mul, le_refl, le_trans}
+use Rattle.std.proofs.Common.{◌≡◌, ◌∷◌, [], ◌≤◌, ◌+◌, ◌*◌, ◌^◌, ◌↔◌, ℕ, ℤ, pos, ◌+ℤ◌, ◌-ℤ◌, ◌*ℤ◌, ◌<ℤ◌, ◌≤ℤ◌, unsigned_abs, List, Some, slice_get, Contains, w64, ap, sym, subst, refl, ◌∙◌, arith, FitsSigned, mul-le-mul, le_refl, le_trans}
 use Rattle.std.proofs.lemmas.Int.{ints}
 use Rattle.std.proofs.lemmas.List.Elements.{All-contains}
 use mir.Syntax.{w128}
-use Rattle.lattice_algebra.specs.Matrix.{Matrix, Column, entries, coordinates, ◌·ᶜ◌, ◌+ᶜ◌, times}
+use Rattle.lattice_algebra.specs.Matrix.{Column, ◌+ᶜ◌, times}
 use Rattle.lattice_algebra.specs.Operator.{Operator, IsOperator}
 use Rattle.lattice_algebra.specs.Map.{Map, map_of, operator_of}
 use Rattle.lattice_algebra.specs.Point.{Point, IsPoint, ◌≈◌, image, HasCoordinatesWithin}
 use Rattle.lattice_algebra.proofs.Ring.{var, con, ◌⊕◌, ◌⊖◌, ◌⊗◌, neg, known, ring_from}
-use Rattle.lattice_algebra.proofs.MatrixRing.{matrix_at, column_at, ◌·ˢᶜ◌, ◌+ˢᶜ◌, sym_times, column_ring}
 use Rattle.lattice_algebra.proofs.Machine.{back, kept, fits, computed, IsWithin}
-use Rattle.lattice_algebra.proofs.Remainders.{modulo_same, modulo_part}
-use Rattle.lattice_algebra.proofs.Maps.{map_path, operator_path}
+use Rattle.lattice_algebra.proofs.Maps.{shifted, operator_of-shifted, shift_of}
 use Rattle.lattice_algebra.proofs.Numbers.{abs_sub}
 use Rattle.lattice_algebra.proofs.Columns.{cancel_column}
-use Rattle.lattice_algebra.proofs.Points.{positive_times}
+use Rattle.lattice_algebra.proofs.Points.{positive_times, image-shifted}
 use Rattle.exact_ops.specs.declared.TheConstants.{UNIT, MAX_COORDINATE, MAX_DENOMINATOR}
 use Rattle.exact_ops.specs.Narrow.{IsNarrow}
 use Rattle.exact_ops.specs.Points.{IsPointInRange}
@@ -22,53 +20,16 @@ use Rattle.exact_ops.proofs.Narrow.{some_parts}
 use Rattle.group_closure.specs.GroupList.{IsGroup}
 use Rattle.group_closure.proofs.Places.{contains_at, same_at}
 use Rattle.space_groups.specs.Space.{IsInSite}
-use Rattle.lattice_algebra.proofs.Maps.{shift_exists}
 use Rattle.site_symmetry.specs.OrderedSite.{SomeElementFixes}
 
--- ---- maps of an operator
+-- ---- the image of a point by a map of an operator
 
-abbrev pub shifted : Operator → Column → Map
-shifted f k = record { w = f.w; s = f.t +ᶜ times (pos UNIT) k }
-
-pub operator_of-shifted : (f : Operator) (k : Column) → IsOperator UNIT f → operator_of UNIT (shifted f k) ≡ f
-unfolding operator_of
-operator_of-shifted f k h = operator_path _ _ refl (modulo_same UNIT some_parts _ f.t k refl ∙ modulo_part UNIT some_parts f.t h.in_cell)
-
-pub shift_of : (f : Operator) (s : Map) → operator_of UNIT s ≡ f → (k : Column) × (s ≡ shifted f k)
-unfolding operator_of
-shift_of f s e =
-    let k = shift_exists UNIT some_parts s in
-    (k.0, map_path s (shifted f k.0) (ap (λ (g : Operator). g.w) e) (k.1 ∙ ap (λ (g : Operator). g.t +ᶜ times (pos UNIT) k.0) e))
-
--- ---- the image of a point by such a map
-
-moved_by_shift : (w : Matrix) (t n k : Column) (u d : ℤ) → times d (times u (w ·ᶜ n) +ᶜ times d (t +ᶜ times u k)) ≡ times d (times u (w ·ᶜ n) +ᶜ times d t) +ᶜ times (u *ℤ d) (times d k)
-unfolding ◌·ᶜ◌ ◌+ᶜ◌ times
-moved_by_shift w t n k u d =
-    let U = var 0 in
-    let D = var 1 in
-    let W = matrix_at 2 in
-    let T = column_at 11 in
-    let N = column_at 14 in
-    let K = column_at 17 in
-    column_ring (u ∷ d ∷ (entries w ++ (coordinates t ++ (coordinates n ++ coordinates k))))
-    (sym_times D (sym_times U (W ·ˢᶜ N) +ˢᶜ sym_times D (T +ˢᶜ sym_times U K)))
-    (sym_times D (sym_times U (W ·ˢᶜ N) +ˢᶜ sym_times D T) +ˢᶜ sym_times (U ⊗ D) (sym_times D K)) tt
-
-gathered : (r v : Column) (c : ℤ) → times c r +ᶜ times c v ≡ times c (r +ᶜ v)
-unfolding ◌+ᶜ◌ times
-gathered r v c =
-    column_ring (c ∷ (coordinates r ++ coordinates v)) (sym_times (var 0) (column_at 1) +ˢᶜ sym_times (var 0) (column_at 4)) (sym_times (var 0) (column_at 1 +ˢᶜ column_at 4)) tt
-
-image_by_shift : (w : Matrix) (t n r k : Column) (u d : ℤ) → times (u *ℤ d) r ≡ times d (times u (w ·ᶜ n) +ᶜ times d t) → times d (times u (w ·ᶜ n) +ᶜ times d (t +ᶜ times u k)) ≡ times (u *ℤ d) (r +ᶜ times d k)
-image_by_shift w t n r k u d e = moved_by_shift w t n k u d ∙ ap (λ v. v +ᶜ times (u *ℤ d) (times d k)) (sym e) ∙ gathered r (times d k) (u *ℤ d)
-
-pub fixed_by_shift : (f : Operator) (p : Point) (r k : Column) → IsPoint p → record { n = r; d = p.d } ≈ image UNIT (map_of f) p → image UNIT (shifted f k) p ≈ p ↔ (r +ᶜ times p.d k ≡ p.n)
+pub fixed_by_shift : (f : Operator) (p : Point) (r k : Column) → IsPoint p → record { n = r; d = p.d } ≈ image UNIT (map_of f) p → image UNIT (shifted UNIT f k) p ≈ p ↔ (r +ᶜ times p.d k ≡ p.n)
 unfolding image
 fixed_by_shift f p r k h e =
-    let m = image_by_shift f.w f.t p.n r k (pos UNIT) p.d e in (
-      (λ a. cancel_column (pos UNIT *ℤ p.d) (r +ᶜ times p.d k) p.n (positive_times UNIT p.d some_parts h) (sym m ∙ a)),
-      (λ a. m ∙ ap (times (pos UNIT *ℤ p.d)) a),
+    let m = image-shifted UNIT f k r p e in (
+      (λ a. cancel_column (pos UNIT *ℤ p.d) (r +ᶜ times p.d k) p.n (positive_times UNIT p.d some_parts h) (m ∙ a)),
+      (λ a. sym m ∙ ap (times (pos UNIT *ℤ p.d)) a),
     )
 
 -- ---- coordinate by coordinate
@@ -118,11 +79,11 @@ IsImage f p r = record { n = r; d = p.d } ≈ image UNIT (map_of f) p
 -- an element of f that fixes p has such a shift
 pub shifts_of_fixing : (f : Operator) (p : Point) (r : Column) → IsPoint p → IsImage f p r → SomeElementFixes f p → (k : Column) × AreShifts p.d p.n r k
 shifts_of_fixing f p r h e s =
-    let k = shift_of f s.0 s.1 in
+    let k = shift_of UNIT some_parts f s.0 s.1 in
     (k.0, shifts_of_column p.d p.n r k.0 ((fixed_by_shift f p r k.0 h e).0 (subst (λ (m : Map). image UNIT m p ≈ p) k.1 s.2)))
 
 -- and each such shift makes one
-pub fixing_of_shifts : (f : Operator) (p : Point) (r k : Column) → IsPoint p → IsImage f p r → AreShifts p.d p.n r k → image UNIT (shifted f k) p ≈ p
+pub fixing_of_shifts : (f : Operator) (p : Point) (r k : Column) → IsPoint p → IsImage f p r → AreShifts p.d p.n r k → image UNIT (shifted UNIT f k) p ≈ p
 fixing_of_shifts f p r k h e a = (fixed_by_shift f p r k h e).1 (column_of_shifts p.d p.n r k a)
 
 -- ---- what the code computes
@@ -205,14 +166,14 @@ shifts_stored p r x y z h k a b c = record {
 operator_at : (members : List Operator) (f : Operator) (i : ℕ) → IsGroup members → slice_get members i ≡ Some f → IsOperator UNIT f
 operator_at members f i g e = (All-contains IsNarrow members f g.narrow (contains_at members f i e)).is_operator
 
-pub operator_of_member : (members : List Operator) (op : Operator) (i : ℕ) (k : Column) → IsGroup members → slice_get members i ≡ Some op → operator_of UNIT (shifted op k) ≡ op
-operator_of_member members op i k g e = operator_of-shifted op k (operator_at members op i g e)
+pub operator_of_member : (members : List Operator) (op : Operator) (i : ℕ) (k : Column) → IsGroup members → slice_get members i ≡ Some op → operator_of UNIT (shifted UNIT op k) ≡ op
+operator_of_member members op i k g e = operator_of-shifted UNIT some_parts op k (operator_at members op i g e)
 
 pub some_fixes : (members : List Operator) (op f : Operator) (i : ℕ) (p : Point) (r k : Column) → IsGroup members → slice_get members i ≡ Some op → IsPoint p → IsImage op p r → AreShifts p.d p.n r k → slice_get members i ≡ Some f → SomeElementFixes f p
 some_fixes members op f i p r k g e h m a q =
-    subst (λ v. SomeElementFixes v p) (same_at members op f i e q) (shifted op k, operator_of_member members op i k g e, fixing_of_shifts op p r k h m a)
+    subst (λ v. SomeElementFixes v p) (same_at members op f i e q) (shifted UNIT op k, operator_of_member members op i k g e, fixing_of_shifts op p r k h m a)
 
-pub in_site : (members : List Operator) (op : Operator) (i : ℕ) (p : Point) (r k : Column) → IsGroup members → slice_get members i ≡ Some op → IsPoint p → IsImage op p r → AreShifts p.d p.n r k → IsInSite UNIT members p (shifted op k)
+pub in_site : (members : List Operator) (op : Operator) (i : ℕ) (p : Point) (r k : Column) → IsGroup members → slice_get members i ≡ Some op → IsPoint p → IsImage op p r → AreShifts p.d p.n r k → IsInSite UNIT members p (shifted UNIT op k)
 in_site members op i p r k g e h m a = record {
   element = subst (Contains members) (sym (operator_of_member members op i k g e)) (contains_at members op i e);
   fixes = fixing_of_shifts op p r k h m a;
