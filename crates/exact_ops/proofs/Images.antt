@@ -15,38 +15,25 @@ use Rattle.exact_ops.specs.declared.TheConstants.{UNIT, MAX_COORDINATE, MAX_DENO
 use Rattle.exact_ops.specs.Narrow.{IsNarrow}
 use Rattle.exact_ops.specs.Points.{point_with, IsPointInRange}
 use Rattle.exact_ops.proofs.Narrow.{AreWithin-parts}
+use Rattle.exact_ops.proofs.Bounds.{denominator_bound, numerator_bound, denominator_within, numerators_within, kept_denominator, kept_numerator}
 
-abbrev pub numerator_bound : ℕ
-numerator_bound = MAX_COORDINATE * (UNIT * MAX_DENOMINATOR ^ 3)
-
--- ---- the numbers of a point
-
-size_of_denominator : (d : ℤ) → pos 0 <ℤ d → d ≤ℤ pos (UNIT * MAX_DENOMINATOR ^ 3) → unsigned_abs d ≤ UNIT * MAX_DENOMINATOR ^ 3
-size_of_denominator d p q = omega (arith, ints)
-
-pub denominator_within : (p : Point) → IsPointInRange p → unsigned_abs p.d ≤ UNIT * MAX_DENOMINATOR ^ 3
-denominator_within p r = size_of_denominator p.d r.positive r.denominator
-
-pub numerators_within : (p : Point) → IsPointInRange p → AreWithin numerator_bound p.n.x p.n.y p.n.z
-numerators_within p r =
-    let d : MAX_COORDINATE * unsigned_abs p.d ≤ numerator_bound = mul-le-mul (le_refl MAX_COORDINATE) (denominator_within p r) in
-    record { first = le_trans r.within.first d; second = le_trans r.within.second d; third = le_trans r.within.third d }
+-- ---- one part of a cell
 
 -- the numerator of one part of a cell
-pub record IsPart (d part : ℤ) : Type 0 where
+pub record IsUnitPart (d part : ℤ) : Type 0 where
   pub whole : d ≡ pos UNIT *ℤ part
   pub size : UNIT * unsigned_abs part ≡ unsigned_abs d
 
 exact_part : (n : ℕ) → n % UNIT ≡ 0 → UNIT * (n / UNIT) ≡ n
 exact_part n e = omega arith
 
-part_of : (d : ℤ) → pos 0 <ℤ d → int_rem_euclid d (pos UNIT) ≡ pos 0 → IsPart d (quot_z d (pos UNIT))
+part_of : (d : ℤ) → pos 0 <ℤ d → int_rem_euclid d (pos UNIT) ≡ pos 0 → IsUnitPart d (quot_z d (pos UNIT))
 part_of (pos n) p e =
     let f : UNIT * (n / UNIT) ≡ n = exact_part n (omega (arith, ints, e)) in
     record { whole = ap pos (sym f); size = f }
 part_of (negsuc n) p e = absurd (omega (arith, ints))
 
-part_within : (d part : ℤ) → IsPart d part → unsigned_abs d ≤ UNIT * MAX_DENOMINATOR ^ 3 → unsigned_abs part ≤ MAX_DENOMINATOR ^ 3
+part_within : (d part : ℤ) → IsUnitPart d part → unsigned_abs d ≤ denominator_bound → unsigned_abs part ≤ MAX_DENOMINATOR ^ 3
 part_within d part h l = omega (arith, h.size)
 
 -- what the code divides
@@ -54,18 +41,15 @@ abbrev pub quotient : ℤ → ℤ → ℤ
 quotient d u = quot_z (back w128 d) (back w128 u)
 
 pub quotient_is : (p : Point) (u : ℤ) → IsPointInRange p → u ≡ pos UNIT → quotient p.d u ≡ quot_z p.d (pos UNIT)
-quotient_is p u r e = ap₂ quot_z (kept w128 (UNIT * MAX_DENOMINATOR ^ 3) p.d (denominator_within p r) tt) (ap (back w128) e)
+quotient_is p u r e = ap₂ quot_z (kept_denominator p r) (ap (back w128) e)
 
-pub IsPart-quotient : (p : Point) (u : ℤ) → IsPointInRange p → u ≡ pos UNIT → IsPart p.d (quotient p.d u)
-IsPart-quotient p u r e = subst (IsPart p.d) (sym (quotient_is p u r e)) (part_of p.d r.positive r.multiple)
+pub IsUnitPart-quotient : (p : Point) (u : ℤ) → IsPointInRange p → u ≡ pos UNIT → IsUnitPart p.d (quotient p.d u)
+IsUnitPart-quotient p u r e = subst (IsUnitPart p.d) (sym (quotient_is p u r e)) (part_of p.d r.positive r.multiple)
 
-pub quotient_within : (p : Point) (u : ℤ) → IsPointInRange p → u ≡ pos UNIT → unsigned_abs (quotient p.d u) ≤ MAX_DENOMINATOR ^ 3
-quotient_within p u r e = part_within p.d (quotient p.d u) (IsPart-quotient p u r e) (denominator_within p r)
+pub quotient_size : (p : Point) (u : ℤ) → IsPointInRange p → u ≡ pos UNIT → unsigned_abs (quotient p.d u) ≤ MAX_DENOMINATOR ^ 3
+quotient_size p u r e = part_within p.d (quotient p.d u) (IsUnitPart-quotient p u r e) (denominator_within p r)
 
 -- ---- numbers that were passed on
-
-pub kept_numerator : (x : ℤ) → unsigned_abs x ≤ numerator_bound → back w128 x ≡ x
-kept_numerator x h = kept w128 numerator_bound x h tt
 
 pub kept_size : (n : ℕ) (x y : ℤ) → x ≡ y → unsigned_abs y ≤ n → unsigned_abs x ≤ n
 kept_size n x y e h = subst (λ v. unsigned_abs v ≤ n) (sym e) h
@@ -108,26 +92,26 @@ numerators_ring w t n u part =
     (sym_times (U ⊗ (U ⊗ P)) (W ·ˢᶜ N +ˢᶜ (record { x = T.x ⊗ P; y = T.y ⊗ P; z = T.z ⊗ P })))
     (sym_times (U ⊗ P) (sym_times U (W ·ˢᶜ N) +ˢᶜ sym_times (U ⊗ P) T)) tt
 
-pub numerators_are : (f : Operator) (n : Column) (d part : ℤ) → IsPart d part → record { n = numerators f n part; d = d } ≈ image UNIT (map_of f) (record { n = n; d = d })
+pub numerators_are : (f : Operator) (n : Column) (d part : ℤ) → IsUnitPart d part → record { n = numerators f n part; d = d } ≈ image UNIT (map_of f) (record { n = n; d = d })
 unfolding image
 numerators_are f n d part h =
     subst (λ k. times (pos UNIT *ℤ k) (numerators f n part) ≡ times k (times (pos UNIT) (f.w ·ᶜ n) +ᶜ times k f.t)) (sym h.whole) (numerators_ring f.w f.t n (pos UNIT) part)
 
-image_bound : (d p : ℕ) → UNIT * p ≡ d → 2 * (MAX_COORDINATE * d) + 2 * (MAX_COORDINATE * d) + 2 * (MAX_COORDINATE * d) + (UNIT - 1) * p ≤ 7 * MAX_COORDINATE * d
-image_bound d p e = omega (arith, e)
+image_size : (d p : ℕ) → UNIT * p ≡ d → 2 * (MAX_COORDINATE * d) + 2 * (MAX_COORDINATE * d) + 2 * (MAX_COORDINATE * d) + (UNIT - 1) * p ≤ 7 * MAX_COORDINATE * d
+image_size d p e = omega (arith, e)
 
-numerator_within : (a b c t : ℤ) (n : Column) (d part : ℤ) → AreWithin 2 a b c → unsigned_abs t ≤ UNIT - 1 → HasCoordinatesWithin MAX_COORDINATE (record { n = n; d = d }) → IsPart d part → unsigned_abs (numerator a b c t n part) ≤ 7 * MAX_COORDINATE * unsigned_abs d
-numerator_within a b c t n d part h k l m =
+numerator_size : (a b c t : ℤ) (n : Column) (d part : ℤ) → AreWithin 2 a b c → unsigned_abs t ≤ UNIT - 1 → HasCoordinatesWithin MAX_COORDINATE (record { n = n; d = d }) → IsUnitPart d part → unsigned_abs (numerator a b c t n part) ≤ 7 * MAX_COORDINATE * unsigned_abs d
+numerator_size a b c t n d part h k l m =
     let m₁ = MAX_COORDINATE * unsigned_abs d in
     le_trans (value-size (2 ∷ 2 ∷ 2 ∷ (UNIT - 1) ∷ m₁ ∷ m₁ ∷ m₁ ∷ unsigned_abs part ∷ []) (a ∷ b ∷ c ∷ t ∷ n.x ∷ n.y ∷ n.z ∷ part ∷ []) (var 0 ⊗ var 4 ⊕ var 1 ⊗ var 5 ⊕ var 2 ⊗ var 6 ⊕ var 3 ⊗ var 7)
     (h.first, (h.second, (h.third, (k, (l.first, (l.second, (l.third, (le_refl (unsigned_abs part), tt)))))))))
-    (image_bound (unsigned_abs d) (unsigned_abs part) m.size)
+    (image_size (unsigned_abs d) (unsigned_abs part) m.size)
 
-pub numerators_within_image : (f : Operator) (n : Column) (d part : ℤ) → HasEntriesWithin 2 f.w → AreWithin (UNIT - 1) f.t.x f.t.y f.t.z → HasCoordinatesWithin MAX_COORDINATE (record { n = n; d = d }) → IsPart d part → HasCoordinatesWithin (7 * MAX_COORDINATE) (record { n = numerators f n part; d = d })
+pub numerators_within_image : (f : Operator) (n : Column) (d part : ℤ) → HasEntriesWithin 2 f.w → AreWithin (UNIT - 1) f.t.x f.t.y f.t.z → HasCoordinatesWithin MAX_COORDINATE (record { n = n; d = d }) → IsUnitPart d part → HasCoordinatesWithin (7 * MAX_COORDINATE) (record { n = numerators f n part; d = d })
 numerators_within_image f n d part h k l m = record {
-  first = numerator_within f.w.xx f.w.xy f.w.xz f.t.x n d part h.x k.first l m;
-  second = numerator_within f.w.yx f.w.yy f.w.yz f.t.y n d part h.y k.second l m;
-  third = numerator_within f.w.zx f.w.zy f.w.zz f.t.z n d part h.z k.third l m;
+  first = numerator_size f.w.xx f.w.xy f.w.xz f.t.x n d part h.x k.first l m;
+  second = numerator_size f.w.yx f.w.yy f.w.yz f.t.y n d part h.y k.second l m;
+  third = numerator_size f.w.zx f.w.zy f.w.zz f.t.z n d part h.z k.third l m;
 }
 
 -- what the code computes from the numbers of an operator and a point
@@ -141,7 +125,7 @@ pub image_is : (f : Operator) (p : Point) (u x y z : ℤ) → IsNarrow f → IsP
 image_is f p u x y z n r e k g h i =
     let t = AreWithin-parts f.t n.is_operator.in_cell in
     let s = numerators_within p r in
-    let q = quotient_within p u r e in
+    let q = quotient_size p u r e in
     λ j. record {
       n = record {
         x = (to_z-of_z k.0 ∙ numerator_is f.w.xx f.w.xy f.w.xz f.t.x p.n (quotient p.d u) x n.within_two.x t.first s q g) j;
@@ -153,13 +137,13 @@ image_is f p u x y z n r e k g h i =
 
 pub image_equals : (f g : Operator) (p : Point) (u : ℤ) (q : Point) → f ≡ g → IsPointInRange p → u ≡ pos UNIT → q ≡ record { n = numerators f p.n (quotient p.d u); d = p.d } → q ≈ image UNIT (map_of g) p
 image_equals f g p u q v r e h =
-    subst (λ k. q ≈ image UNIT (map_of k) p) v (subst (λ k. k ≈ image UNIT (map_of f) p) (sym h) (numerators_are f p.n p.d (quotient p.d u) (IsPart-quotient p u r e)))
+    subst (λ k. q ≈ image UNIT (map_of k) p) v (subst (λ k. k ≈ image UNIT (map_of f) p) (sym h) (numerators_are f p.n p.d (quotient p.d u) (IsUnitPart-quotient p u r e)))
 
 pub image_within : (f : Operator) (p : Point) (u : ℤ) (q : Point) → IsNarrow f → IsPointInRange p → u ≡ pos UNIT → q ≡ record { n = numerators f p.n (quotient p.d u); d = p.d } → HasCoordinatesWithin (7 * MAX_COORDINATE) q
-image_within f p u q n r e g = subst (HasCoordinatesWithin (7 * MAX_COORDINATE)) (sym g) (numerators_within_image f p.n p.d (quotient p.d u) n.within_two (AreWithin-parts f.t n.is_operator.in_cell) r.within (IsPart-quotient p u r e))
+image_within f p u q n r e g = subst (HasCoordinatesWithin (7 * MAX_COORDINATE)) (sym g) (numerators_within_image f p.n p.d (quotient p.d u) n.within_two (AreWithin-parts f.t n.is_operator.in_cell) r.within (IsUnitPart-quotient p u r e))
 
 pub kept_part : (p : Point) (u : ℤ) → IsPointInRange p → u ≡ pos UNIT → unsigned_abs (back w128 (quotient p.d u)) ≤ MAX_DENOMINATOR ^ 3
-kept_part p u r e = let h = quotient_within p u r e in kept_size (MAX_DENOMINATOR ^ 3) _ (quotient p.d u) (kept w128 (MAX_DENOMINATOR ^ 3) (quotient p.d u) h tt) h
+kept_part p u r e = let h = quotient_size p u r e in kept_size (MAX_DENOMINATOR ^ 3) _ (quotient p.d u) (kept w128 (MAX_DENOMINATOR ^ 3) (quotient p.d u) h tt) h
 
 pub kept_translation : (t : ℤ) → unsigned_abs t ≤ UNIT - 1 → unsigned_abs (back w32 t) ≤ UNIT - 1
 kept_translation t h = kept_size (UNIT - 1) _ t (kept w32 (UNIT - 1) t h tt) h

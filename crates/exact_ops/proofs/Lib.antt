@@ -1,4 +1,5 @@
 pub mod Narrow
+pub mod Bounds
 pub mod Listed
 mod Points
 mod Images

@@ -10,6 +10,7 @@ use Rattle.lattice_algebra.proofs.Remainders.{rem_same, rem_part}
 use Rattle.exact_ops.specs.declared.TheConstants.{UNIT, MAX_COORDINATE, MAX_DENOMINATOR}
 use Rattle.exact_ops.specs.Points.{point_with, IsPointInRange, coordinate_at, IsCoordinateInRange, AreCoordinatesInRange, HasCoordinates}
 use Rattle.exact_ops.proofs.Narrow.{some_parts}
+use Rattle.exact_ops.proofs.Bounds.{denominator_bound}
 
 -- a test of a coordinate that was passed on
 pub tested : (q : ℤ × ℤ) (b : Bool) → FitsSigned w64 q.0 → FitsSigned w64 q.1 → IsTrue b ↔ IsCoordinateInRange (back w64 q.0, back w64 q.1) → IsTrue b ↔ IsCoordinateInRange q
@@ -45,9 +46,9 @@ size_of u p q = omega (arith, ints)
 at_most : (d : ℤ) (n : ℕ) → unsigned_abs d ≤ n → d ≤ℤ pos n
 at_most d n h = omega (arith, ints)
 
-denominator : (u v w : ℤ) → unsigned_abs u ≤ MAX_DENOMINATOR → unsigned_abs v ≤ MAX_DENOMINATOR → unsigned_abs w ≤ MAX_DENOMINATOR → units u v w ≤ℤ pos (UNIT * MAX_DENOMINATOR ^ 3)
+denominator : (u v w : ℤ) → unsigned_abs u ≤ MAX_DENOMINATOR → unsigned_abs v ≤ MAX_DENOMINATOR → unsigned_abs w ≤ MAX_DENOMINATOR → units u v w ≤ℤ pos denominator_bound
 denominator u v w p q r =
-    at_most (units u v w) (UNIT * MAX_DENOMINATOR ^ 3)
+    at_most (units u v w) denominator_bound
     (value-size (MAX_DENOMINATOR ∷ MAX_DENOMINATOR ∷ MAX_DENOMINATOR ∷ []) (u ∷ v ∷ w ∷ []) (con (pos UNIT) ⊗ (var 0 ⊗ var 1 ⊗ var 2)) (p, (q, (r, tt))))
 
 size_of_units : (a b c : ℤ) → unsigned_abs (units a b c) ≡ UNIT * (unsigned_abs a * unsigned_abs b * unsigned_abs c)

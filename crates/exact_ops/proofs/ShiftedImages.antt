@@ -13,28 +13,19 @@ use Rattle.exact_ops.specs.declared.TheConstants.{UNIT, MAX_COORDINATE, MAX_DENO
 use Rattle.exact_ops.specs.Points.{point_with, IsPointInRange}
 use Rattle.exact_ops.specs.Moves.{map_with, IsShiftInRange}
 use Rattle.exact_ops.proofs.Narrow.{some_parts}
-use Rattle.exact_ops.proofs.Images.{denominator_within}
+use Rattle.exact_ops.proofs.Bounds.{denominator_bound, kept_denominator, kept_image}
 
 -- a number of a list
 abbrev pub at : List ℤ → ℕ → ℤ
 at l i = slice_index_or l i (pos 0)
 
-abbrev image_bound : ℕ
-image_bound = 7 * MAX_COORDINATE * (UNIT * MAX_DENOMINATOR ^ 3)
-
 -- what the code computes from a numerator, a whole shift and the denominator
 abbrev pub IsShifted : ℤ → ℤ → ℤ → ℤ → Type 0
 IsShifted n k d r = r ≡ back w128 n +ℤ back w64 k *ℤ back w128 d
 
-kept_denominator : (p : Point) → IsPointInRange p → back w128 p.d ≡ p.d
-kept_denominator p r = kept w128 (UNIT * MAX_DENOMINATOR ^ 3) p.d (denominator_within p r) tt
-
-numerator_size : (n d : ℕ) → n ≤ 7 * MAX_COORDINATE * d → d ≤ UNIT * MAX_DENOMINATOR ^ 3 → n ≤ image_bound
-numerator_size n d h k = le_trans h (mul-le-mul (le_refl (7 * MAX_COORDINATE)) k)
-
 shifted_is : (n k : ℤ) (p : Point) (r : ℤ) → IsPointInRange p → unsigned_abs n ≤ 7 * MAX_COORDINATE * unsigned_abs p.d → unsigned_abs k ≤ MAX_SHIFT → FitsSigned w128 r → IsShifted n k p.d r → back w128 r ≡ n +ℤ p.d *ℤ k
 shifted_is n k p r i h l f e =
-    read w128 r (n +ℤ p.d *ℤ k) f (e ∙ (λ j. kept w128 image_bound n (numerator_size (unsigned_abs n) (unsigned_abs p.d) h (denominator_within p i)) tt j +ℤ kept w64 MAX_SHIFT k l tt j *ℤ kept_denominator p i j) ∙ ap (λ v. n +ℤ v) (*ℤ_comm k p.d))
+    read w128 r (n +ℤ p.d *ℤ k) f (e ∙ (λ j. kept_image p n i h j +ℤ kept w64 MAX_SHIFT k l tt j *ℤ kept_denominator p i j) ∙ ap (λ v. n +ℤ v) (*ℤ_comm k p.d))
 
 -- the point with numerators r over the denominator of p, shifted
 abbrev shifted_point : List ℤ → List ℤ → ℤ → Point
@@ -79,6 +70,6 @@ pub IsPointInRange-over : (p q : Point) → IsPointInRange p → q.d ≡ p.d →
 IsPointInRange-over p q r e h = record {
   positive = subst (λ d. pos 0 <ℤ d) (sym e) r.positive;
   multiple = subst (λ d. int_rem_euclid d (pos UNIT) ≡ pos 0) (sym e) r.multiple;
-  denominator = subst (λ d. d ≤ℤ pos (UNIT * MAX_DENOMINATOR ^ 3)) (sym e) r.denominator;
+  denominator = subst (λ d. d ≤ℤ pos denominator_bound) (sym e) r.denominator;
   within = h;
 }

@@ -15,6 +15,7 @@ use Rattle.lattice_algebra.proofs.Remainders.{rem_is, modulo_is, modulo_parts}
 use Rattle.exact_ops.specs.declared.TheConstants.{UNIT, MAX_COORDINATE, MAX_DENOMINATOR}
 use Rattle.exact_ops.specs.Points.{point_with, IsPointInRange}
 use Rattle.exact_ops.proofs.Narrow.{some_parts}
+use Rattle.exact_ops.proofs.Bounds.{denominator_bound, denominator_within, kept_denominator, kept_image}
 use Rattle.space_groups.specs.Space.{IsInCell}
 use Rattle.orbit_map.specs.Steps.{IsPlaced}
 
@@ -24,38 +25,27 @@ whole_of : (d : ℤ) → pos 0 <ℤ d → (n : ℕ) × (0 < n) × (d ≡ pos n)
 whole_of (pos n) p = (n, omega (arith, ints), refl)
 whole_of (negsuc n) p = absurd (omega (arith, ints))
 
-abbrev most : ℕ
-most = UNIT * MAX_DENOMINATOR ^ 3
-
-size_of_denominator : (n : ℕ) (x : rational.Point) → IsPointInRange x → x.d ≡ pos n → n ≤ most
-size_of_denominator n x r e = let l = r.denominator in omega (arith, ints, e)
-
-size_of_part : (n : ℕ) (a : ℤ) → n ≤ most → IsPart n a → unsigned_abs a ≤ most
+size_of_part : (n : ℕ) (a : ℤ) → n ≤ denominator_bound → IsPart n a → unsigned_abs a ≤ denominator_bound
 size_of_part n a l p = omega (arith, ints)
 
-size_of_image : (n : ℕ) (d r : ℤ) → n ≤ most → d ≡ pos n → unsigned_abs r ≤ 7 * MAX_COORDINATE * unsigned_abs d → unsigned_abs r ≤ 7 * MAX_COORDINATE * most
-size_of_image n d r l e h = le_trans h (mul-le-mul (le_refl (7 * MAX_COORDINATE)) (subst (λ v. unsigned_abs v ≤ most) (sym e) l))
-
-reduced : (n : ℕ) (d r a : ℤ) → 0 < n → n ≤ most → d ≡ pos n → unsigned_abs r ≤ 7 * MAX_COORDINATE * unsigned_abs d → a ≡ int_rem_euclid (back w128 r) (back w128 d) → back w128 a ≡ int_rem_euclid r (pos n)
-reduced n d r a h l e s q =
-    let keep : back w128 (pos n) ≡ pos n = kept w128 most (pos n) l tt in
-    let by : a ≡ int_rem_euclid r (pos n) = q ∙ ap₂ int_rem_euclid (kept w128 (7 * MAX_COORDINATE * most) r (size_of_image n d r l e s) tt) (ap (back w128) e ∙ keep) in
-    ap (back w128) by ∙ kept w128 most (int_rem_euclid r (pos n)) (size_of_part n _ l (rem_is n h r).2) tt
+reduced : (n : ℕ) (x : rational.Point) (r a : ℤ) → 0 < n → IsPointInRange x → x.d ≡ pos n → unsigned_abs r ≤ 7 * MAX_COORDINATE * unsigned_abs x.d → a ≡ int_rem_euclid (back w128 r) (back w128 x.d) → back w128 a ≡ int_rem_euclid r (pos n)
+reduced n x r a h g e s q =
+    let l = subst (λ d. unsigned_abs d ≤ denominator_bound) e (denominator_within x g) in
+    let by : a ≡ int_rem_euclid r (pos n) = q ∙ ap₂ int_rem_euclid (kept_image x r g s) (kept_denominator x g ∙ e) in
+    ap (back w128) by ∙ kept w128 denominator_bound (int_rem_euclid r (pos n)) (size_of_part n _ l (rem_is n h r).2) tt
 
 reduced_point : (n : ℕ) (x : rational.Point) (r : List ℤ) (a b c : ℤ) → 0 < n → IsPointInRange x → x.d ≡ pos n → HasCoordinatesWithin (7 * MAX_COORDINATE) (point_with r x.d)
     → a ≡ int_rem_euclid (back w128 (column_of r).x) (back w128 x.d) → b ≡ int_rem_euclid (back w128 (column_of r).y) (back w128 x.d) → c ≡ int_rem_euclid (back w128 (column_of r).z) (back w128 x.d)
     → point_with (back w128 a ∷ back w128 b ∷ back w128 c ∷ []) (back w128 x.d) ≡ record { n = modulo n (column_of r); d = pos n }
 unfolding modulo
-reduced_point n x r a b c h g e w p q s =
-    let l = size_of_denominator n x g e in
-    λ i. record {
-      n = record {
-        x = reduced n x.d (column_of r).x a h l e w.first p i;
-        y = reduced n x.d (column_of r).y b h l e w.second q i;
-        z = reduced n x.d (column_of r).z c h l e w.third s i;
-      };
-      d = (ap (back w128) e ∙ kept w128 most (pos n) l tt) i;
-    }
+reduced_point n x r a b c h g e w p q s = λ i. record {
+  n = record {
+    x = reduced n x (column_of r).x a h g e w.first p i;
+    y = reduced n x (column_of r).y b h g e w.second q i;
+    z = reduced n x (column_of r).z c h g e w.third s i;
+  };
+  d = (kept_denominator x g ∙ e) i;
+}
 
 in_cell_modulo : (n : ℕ) → 0 < n → (c : Column) → IsInCell (record { n = modulo n c; d = pos n })
 in_cell_modulo n h c = let m = modulo_parts n h c in (m.x.0, m.x.1, m.y.0, m.y.1, m.z.0, m.z.1)

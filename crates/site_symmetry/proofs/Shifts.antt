@@ -17,6 +17,7 @@ use Rattle.exact_ops.specs.declared.TheConstants.{UNIT, MAX_COORDINATE, MAX_DENO
 use Rattle.exact_ops.specs.Narrow.{IsNarrow}
 use Rattle.exact_ops.specs.Points.{IsPointInRange}
 use Rattle.exact_ops.proofs.Narrow.{some_parts}
+use Rattle.exact_ops.proofs.Bounds.{numerator_bound, image_bound, numerator_within, kept_denominator}
 use Rattle.group_closure.specs.GroupList.{IsGroup}
 use Rattle.group_closure.proofs.Places.{contains_at, same_at}
 use Rattle.space_groups.specs.Space.{IsInSite}
@@ -88,18 +89,6 @@ fixing_of_shifts f p r k h e a = (fixed_by_shift f p r k h e).1 (column_of_shift
 
 -- ---- what the code computes
 
-abbrev pub denominator_bound : ℕ
-denominator_bound = UNIT * MAX_DENOMINATOR ^ 3
-
-denominator_size : (d : ℤ) → pos 0 <ℤ d → d ≤ℤ pos denominator_bound → unsigned_abs d ≤ denominator_bound
-denominator_size d p q = omega (arith, ints)
-
-denominator_within : (p : Point) → IsPointInRange p → unsigned_abs p.d ≤ denominator_bound
-denominator_within p h = denominator_size p.d h.positive h.denominator
-
-pub kept_denominator : (p : Point) → IsPointInRange p → back w128 p.d ≡ p.d
-kept_denominator p h = kept w128 denominator_bound p.d (denominator_within p h) tt
-
 -- a numerator of the point, and one of its image
 pub record AreNear (p : Point) (n r : ℤ) : Type 0 where
   pub range : IsPointInRange p
@@ -119,12 +108,10 @@ pub near_z : (p : Point) (r : Column) → IsPointInRange p → IsNearImage p r �
 near_z p r h k = record { range = h; given = h.within.third; image = k.third }
 
 abbrev bounds : List ℕ
-bounds = MAX_COORDINATE * denominator_bound ∷ 7 * MAX_COORDINATE * denominator_bound ∷ []
+bounds = numerator_bound ∷ image_bound ∷ []
 
 within : (p : Point) (n r : ℤ) → AreNear p n r → IsWithin bounds (n ∷ r ∷ [])
-within p n r h =
-    let d = denominator_within p h.range in
-    (le_trans h.given (mul-le-mul (le_refl MAX_COORDINATE) d), (le_trans h.image (mul-le-mul (le_refl (7 * MAX_COORDINATE)) d), tt))
+within p n r h = (numerator_within MAX_COORDINATE p n h.range h.given, (numerator_within (7 * MAX_COORDINATE) p r h.range h.image, tt))
 
 pub fits_difference : (p : Point) (n r : ℤ) → AreNear p n r → FitsSigned w128 (back w128 n -ℤ back w128 r)
 fits_difference p n r h = fits w128 bounds (n ∷ r ∷ []) (var 0 ⊖ var 1) (within p n r h) tt

@@ -3,10 +3,8 @@ use mir.Syntax.{w128}
 use Rattle.lattice_algebra.proofs.Ring.{Expr, var, ◌⊕◌, ◌⊗◌, value}
 use Rattle.lattice_algebra.proofs.Machine.{IsWithin, fits, computed, widened}
 use Rattle.exact_ops.specs.declared.TheConstants.{UNIT, MAX_COORDINATE, MAX_DENOMINATOR}
+use Rattle.exact_ops.proofs.Bounds.{numerator_bound}
 use Rattle.exact_ops.proofs.image.image_coordinate.Goals as goal
-
-abbrev numerator_bound : ℕ
-numerator_bound = MAX_COORDINATE * (UNIT * MAX_DENOMINATOR ^ 3)
 
 abbrev bounds : List ℕ
 bounds = 2 ∷ 2 ∷ 2 ∷ (UNIT - 1) ∷ numerator_bound ∷ numerator_bound ∷ numerator_bound ∷ (MAX_DENOMINATOR ^ 3) ∷ []

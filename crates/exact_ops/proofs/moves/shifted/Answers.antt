@@ -3,10 +3,11 @@ use mir.Syntax.{w128}
 use Rattle.lattice_algebra.proofs.Ring.{Expr, var, ◌⊕◌, ◌⊗◌, value}
 use Rattle.lattice_algebra.proofs.Machine.{IsWithin, computed, kept}
 use Rattle.exact_ops.specs.declared.TheConstants.{UNIT, MAX_COORDINATE, MAX_DENOMINATOR, MAX_SHIFT}
+use Rattle.exact_ops.proofs.Bounds.{denominator_bound, image_bound}
 use Rattle.exact_ops.proofs.moves.shifted.Goals as goal
 
 abbrev bounds : List ℕ
-bounds = (7 * MAX_COORDINATE * (UNIT * MAX_DENOMINATOR ^ 3)) ∷ MAX_SHIFT ∷ (UNIT * MAX_DENOMINATOR ^ 3) ∷ []
+bounds = image_bound ∷ MAX_SHIFT ∷ denominator_bound ∷ []
 
 abbrev numbers : goal.After-from → List ℤ
 numbers c = c.args.n ∷ c.from.result ∷ c.args.d ∷ []

@@ -3,7 +3,8 @@ use mir.Syntax.{w128}
 use Rattle.exact_ops.specs.Fields.{operator_in}
 use Rattle.exact_ops.specs.Numbers.{point_in}
 use Rattle.exact_ops.proofs.Narrow.{AreWithin-parts}
-use Rattle.exact_ops.proofs.Images.{numerators_within, kept_within, kept_part, kept_translation, image_is, image_equals, image_within}
+use Rattle.exact_ops.proofs.Bounds.{numerators_within}
+use Rattle.exact_ops.proofs.Images.{kept_within, kept_part, kept_translation, image_is, image_equals, image_within}
 use Rattle.exact_ops.proofs.op.Op.image_of.Goals as goal
 
 pub image_coordinate-requires-clause-point : goal.image_coordinate-requires-clause-point

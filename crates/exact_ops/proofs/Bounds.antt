@@ -1,0 +1,45 @@
+-- The sizes of the numbers of a point that is in range, and of its images: the machine keeps them.
+use Rattle.std.proofs.Common.{◌≡◌, ◌≤◌, ◌*◌, ◌^◌, ℕ, ℤ, pos, ◌≤ℤ◌, ◌<ℤ◌, unsigned_abs, arith, mul-le-mul, le_refl, le_trans}
+use Rattle.std.proofs.lemmas.Int.{ints}
+use mir.Syntax.{w128}
+use Rattle.lattice_algebra.specs.Operator.{AreWithin}
+use Rattle.lattice_algebra.specs.Point.{Point}
+use Rattle.lattice_algebra.proofs.Machine.{back, kept}
+use Rattle.exact_ops.specs.declared.TheConstants.{UNIT, MAX_COORDINATE, MAX_DENOMINATOR}
+use Rattle.exact_ops.specs.Points.{IsPointInRange}
+
+abbrev pub denominator_bound : ℕ
+denominator_bound = UNIT * MAX_DENOMINATOR ^ 3
+
+abbrev pub numerator_bound : ℕ
+numerator_bound = MAX_COORDINATE * denominator_bound
+
+-- of a numerator of an image
+abbrev pub image_bound : ℕ
+image_bound = 7 * MAX_COORDINATE * denominator_bound
+
+size_of_denominator : (d : ℤ) → pos 0 <ℤ d → d ≤ℤ pos denominator_bound → unsigned_abs d ≤ denominator_bound
+size_of_denominator d p q = omega (arith, ints)
+
+pub denominator_within : (p : Point) → IsPointInRange p → unsigned_abs p.d ≤ denominator_bound
+denominator_within p r = size_of_denominator p.d r.positive r.denominator
+
+-- where a coordinate has a size, its numerator has a bound
+pub numerator_within : (size : ℕ) (p : Point) (x : ℤ) → IsPointInRange p → unsigned_abs x ≤ size * unsigned_abs p.d → unsigned_abs x ≤ size * denominator_bound
+numerator_within size p x r h = le_trans h (mul-le-mul (le_refl size) (denominator_within p r))
+
+pub numerators_within : (p : Point) → IsPointInRange p → AreWithin numerator_bound p.n.x p.n.y p.n.z
+numerators_within p r = record {
+  first = numerator_within MAX_COORDINATE p p.n.x r r.within.first;
+  second = numerator_within MAX_COORDINATE p p.n.y r r.within.second;
+  third = numerator_within MAX_COORDINATE p p.n.z r r.within.third;
+}
+
+pub kept_denominator : (p : Point) → IsPointInRange p → back w128 p.d ≡ p.d
+kept_denominator p r = kept w128 denominator_bound p.d (denominator_within p r) tt
+
+pub kept_numerator : (x : ℤ) → unsigned_abs x ≤ numerator_bound → back w128 x ≡ x
+kept_numerator x h = kept w128 numerator_bound x h tt
+
+pub kept_image : (p : Point) (x : ℤ) → IsPointInRange p → unsigned_abs x ≤ 7 * MAX_COORDINATE * unsigned_abs p.d → back w128 x ≡ x
+kept_image p x r h = kept w128 image_bound x (numerator_within (7 * MAX_COORDINATE) p x r h) tt
