@@ -4,37 +4,17 @@ use Rattle.std.specs.Cmp.{IsTotalOrder}
 use Rattle.std.specs.Ordering.{ordering_reverse, is_lt}
 use Rattle.std.specs.List.Sorted.{IsStrictlySortedBy}
 use Rattle.std.proofs.lemmas.Bool.{true≢false}
-use Rattle.std.proofs.lemmas.Map.Keys.{sorted_head, sorted_tail, sorted_from_all_adjacent}
+use Rattle.std.proofs.lemmas.Map.Keys.{Less-from_sorted, sorted_from_all_adjacent}
 use Rattle.std.proofs.lemmas.List.Elements.{All-contains, All-from_recursion}
-use Rattle.finite_groups.proofs.Members as members
+use Rattle.finite_groups.proofs.Pairs.{in_rest, one_list_in_order}
 
 module _ {X : Type 0} (R : X → X → Ordering) (total : IsTotalOrder R) where
-  head_below : (x y : X) (xs : List X) → IsStrictlySortedBy R (x ∷ xs) → Contains xs y → R x y ≡ Less
-  head_below x y xs s m = All-contains (λ v. R x v ≡ Less) xs y (All-from_recursion _ xs (sorted_head R x xs s)) m
-
   both_below : (x y : X) → R x y ≡ Less → R y x ≡ Less → ⊥
   both_below x y p q = let e : Less ≡ ordering_reverse Less = sym p ∙ total.antisymm x y ∙ ap ordering_reverse q in cc
 
-  not_later : (x : X) (xs : List X) → IsStrictlySortedBy R (x ∷ xs) → Contains xs x → ⊥
-  not_later x xs s m = both_below x x (head_below x x xs s m) (head_below x x xs s m)
-
-  -- what a list that begins with x has besides x is in the rest
-  in_rest : (x z : X) (xs ys : List X) → (Contains xs x → ⊥) → (Contains (x ∷ xs) z → Contains (x ∷ ys) z) → Contains xs z → Contains ys z
-  in_rest x z xs ys n h c = ⊎_elim (λ e. absurd (n (subst (λ v. Contains xs v) (sym e) c))) (λ d. d) (members.Contains-cases z x ys (h (members.Contains-later z x xs c)))
-
   pub one_order : (xs ys : List X) → IsStrictlySortedBy R xs → IsStrictlySortedBy R ys → ((x : X) → Contains xs x ↔ Contains ys x) → xs ≡ ys
-  one_order [] [] s t m = refl
-  one_order [] (y ∷ ys) s t m = members.not_in_nil y ((m y).1 (members.Contains-here y ys))
-  one_order (x ∷ xs) [] s t m = members.not_in_nil x ((m x).0 (members.Contains-here x xs))
-  one_order (x ∷ xs) (y ∷ ys) s t m =
-      ap₂ ◌∷◌ heads (one_order xs ys (sorted_tail R x xs s) (sorted_tail R y ys t) (λ z. (
-        in_rest x z xs ys (not_later x xs s) (λ c. subst (λ v. Contains (v ∷ ys) z) (sym heads) ((m z).0 c)),
-        in_rest y z ys xs (not_later y ys t) (λ c. subst (λ v. Contains (v ∷ xs) z) heads ((m z).1 c)),
-      )))
-    where
-      heads : x ≡ y
-      heads = ⊎_elim (λ e. sym e) (λ c. ⊎_elim (λ e. e) (λ d. absurd (both_below x y (head_below x y xs s d) (head_below y x ys t c))) (members.Contains-cases y x xs ((m y).1 (members.Contains-here y ys))))
-          (members.Contains-cases x y ys ((m x).0 (members.Contains-here x xs)))
+  one_order xs ys s t m =
+      one_list_in_order (λ x y. R x y ≡ Less) xs ys (λ x y c d l k. both_below x y l k) (λ i j d l k. Less-from_sorted R xs i j d s l k) (λ i j d l k. Less-from_sorted R ys i j d t l k) m
 
   -- two lists that begin alike, are in strict order from there on, lack their first later, and have the same members
   pub one_order_after : (x : X) (xs ys : List X) → (Contains xs x → ⊥) → (Contains ys x → ⊥) → IsStrictlySortedBy R xs → IsStrictlySortedBy R ys → ((z : X) → Contains (x ∷ xs) z ↔ Contains (x ∷ ys) z) → x ∷ xs ≡ x ∷ ys

@@ -21,28 +21,29 @@ AllPairs-append_one R xs y h k i j d l m = elim (cases_lt j (length xs)) [
       subst (λ v. R (get_or (xs ++ y ∷ []) i d) v) (sym b) (subst (λ v. R v y) (sym a) (k (get_or xs i d) (Contains-get_or xs i d i_in)))
 ]
 
--- two lists in order with the same members are one, where no two members stand before each other
+-- what a list has besides its first, another list with this first has besides it too
+pub in_rest : {X : Type 0} (x z : X) (xs ys : List X) → (Contains xs x → ⊥) → (Contains (x ∷ xs) z → Contains (x ∷ ys) z) → Contains xs z → Contains ys z
+in_rest x z xs ys n h c = ⊎_elim (λ e. absurd (n (subst (Contains xs) (sym e) c))) (λ d. d) (members.Contains-cases z x ys (h (members.Contains-later z x xs c)))
+
 module _ {X : Type 0} (R : X → X → Type 0) where
-  after_first : (x y : X) (xs : List X) → AllPairs R (x ∷ xs) → Contains xs y → R x y
-  after_first x y xs h c = subst (R x) c.2 (h 0 (suc c.0) y (omega arith) (omega (arith, c.1)))
+  pub AllPairs-first : (x y : X) (xs : List X) → AllPairs R (x ∷ xs) → Contains xs y → R x y
+  AllPairs-first x y xs h c = subst (R x) c.2 (h 0 (suc c.0) y (omega arith) (omega (arith, c.1)))
 
-  rest : (x : X) (xs : List X) → AllPairs R (x ∷ xs) → AllPairs R xs
-  rest x xs h i j d l m = h (suc i) (suc j) d (omega arith) (omega arith)
+  pub AllPairs-rest : (x : X) (xs : List X) → AllPairs R (x ∷ xs) → AllPairs R xs
+  AllPairs-rest x xs h i j d l m = h (suc i) (suc j) d (omega arith) (omega arith)
 
-  in_rest : (x z : X) (xs ys : List X) → (R x x → ⊥) → AllPairs R (x ∷ xs) → (Contains (x ∷ xs) z → Contains (x ∷ ys) z) → Contains xs z → Contains ys z
-  in_rest x z xs ys n h k c = ⊎_elim (λ e. absurd (n (after_first x x xs h (subst (Contains xs) (sym e) c)))) (λ d. d) (members.Contains-cases z x ys (k (members.Contains-later z x xs c)))
-
+  -- two lists in order with the same members are one, where no two members stand before each other
   pub one_list_in_order : (xs ys : List X) → ((a b : X) → Contains xs a → Contains xs b → R a b → R b a → ⊥) → AllPairs R xs → AllPairs R ys → ((x : X) → Contains xs x ↔ Contains ys x) → xs ≡ ys
   one_list_in_order [] [] n s t m = refl
   one_list_in_order [] (y ∷ ys) n s t m = members.not_in_nil y ((m y).1 (members.Contains-here y ys))
   one_list_in_order (x ∷ xs) [] n s t m = members.not_in_nil x ((m x).0 (members.Contains-here x xs))
   one_list_in_order (x ∷ xs) (y ∷ ys) n s t m =
       let here = members.Contains-here x xs in
-      let no_loop : R x x → ⊥ = λ r. n x x here here r r in
-      let heads : x ≡ y = ⊎_elim (λ e. e) (λ c. ⊎_elim (λ e. sym e) (λ d. absurd (n x y here (members.Contains-later y x xs c) (after_first x y xs s c) (after_first y x ys t d))) (members.Contains-cases x y ys ((m x).0 here)))
+      let once : (zs : List X) → AllPairs R (x ∷ zs) → Contains zs x → ⊥ = λ zs h c. let r = AllPairs-first x x zs h c in n x x here here r r in
+      let heads : x ≡ y = ⊎_elim (λ e. e) (λ c. ⊎_elim (λ e. sym e) (λ d. absurd (n x y here (members.Contains-later y x xs c) (AllPairs-first x y xs s c) (AllPairs-first y x ys t d))) (members.Contains-cases x y ys ((m x).0 here)))
       (members.Contains-cases y x xs ((m y).1 (members.Contains-here y ys))) in
       let t' : AllPairs R (x ∷ ys) = subst (λ v. AllPairs R (v ∷ ys)) (sym heads) t in
-      ap₂ ◌∷◌ heads (one_list_in_order xs ys (λ a b p q. n a b (members.Contains-later a x xs p) (members.Contains-later b x xs q)) (rest x xs s) (rest y ys t) (λ z. (
-        in_rest x z xs ys no_loop s (λ c. subst (λ v. Contains (v ∷ ys) z) (sym heads) ((m z).0 c)),
-        in_rest x z ys xs no_loop t' (λ c. (m z).1 (subst (λ v. Contains (v ∷ ys) z) heads c)),
+      ap₂ ◌∷◌ heads (one_list_in_order xs ys (λ a b p q. n a b (members.Contains-later a x xs p) (members.Contains-later b x xs q)) (AllPairs-rest x xs s) (AllPairs-rest y ys t) (λ z. (
+        in_rest x z xs ys (once xs s) (λ c. subst (λ v. Contains (v ∷ ys) z) (sym heads) ((m z).0 c)),
+        in_rest x z ys xs (once ys t') (λ c. (m z).1 (subst (λ v. Contains (v ∷ ys) z) heads c)),
       )))

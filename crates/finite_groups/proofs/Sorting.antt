@@ -3,14 +3,9 @@ use Rattle.std.proofs.Common.{◌≡◌, ◌∷◌, [], suc, ◌⊎◌, inl, inr
 use Rattle.std.proofs.lemmas.List.Elements.{Contains-get_or}
 use Rattle.std.proofs.lemmas.List.Kept.{AllPairs-cons}
 use Rattle.finite_groups.proofs.Members as lists
+use Rattle.finite_groups.proofs.Pairs.{AllPairs-first, AllPairs-rest}
 
 module _ {X : Type 0} (Before : X → X → Type 0) (on : (a b c : X) → Before a b → Before b c → Before a c) (which : (a b : X) → Before a b ⊎ ((a ≡ b) ⊎ Before b a)) where
-  after_head : (x : X) (xs : List X) → AllPairs Before (x ∷ xs) → (y : X) → Contains xs y → Before x y
-  after_head x xs s y c = subst (Before x) c.2 (s 0 (suc c.0) y (omega arith) (omega (arith, c.1)))
-
-  tail : (x : X) (xs : List X) → AllPairs Before (x ∷ xs) → AllPairs Before xs
-  tail x xs s i j d l m = s (suc i) (suc j) d (omega arith) (omega arith)
-
   in_front : (x : X) (xs : List X) → ((y : X) → Contains xs y → Before x y) → AllPairs Before xs → AllPairs Before (x ∷ xs)
   in_front x xs h s = AllPairs-cons Before x xs (λ k d l. h (get_or xs k d) (Contains-get_or xs k d l)) s
 
@@ -20,18 +15,18 @@ module _ {X : Type 0} (Before : X → X → Type 0) (on : (a b c : X) → Before
 
   insert : (x : X) (ys : List X) → AllPairs Before ys → With x ys
   insert x [] s = (x ∷ [], in_front x [] (λ y c. lists.not_in_nil y c) s, λ z. (lists.Contains-cases z x [], ⊎_elim (λ e. subst (Contains (x ∷ [])) e (lists.Contains-here x [])) (λ c. lists.not_in_nil z c)))
-  insert x (y ∷ ys) s = step (insert x ys (tail y ys s)) (which x y)
+  insert x (y ∷ ys) s = step (insert x ys (AllPairs-rest Before y ys s)) (which x y)
     where
       step : With x ys → Before x y ⊎ ((x ≡ y) ⊎ Before y x) → With x (y ∷ ys)
       step r (inl b) = (
         x ∷ y ∷ ys,
-        in_front x (y ∷ ys) (λ z c. ⊎_elim (λ e. subst (Before x) e b) (λ d. on x y z b (after_head y ys s z d)) (lists.Contains-cases z y ys c)) s,
+        in_front x (y ∷ ys) (λ z c. ⊎_elim (λ e. subst (Before x) e b) (λ d. on x y z b (AllPairs-first Before y z ys s d)) (lists.Contains-cases z y ys c)) s,
         λ z. (lists.Contains-cases z x (y ∷ ys), ⊎_elim (λ e. subst (Contains (x ∷ y ∷ ys)) e (lists.Contains-here x (y ∷ ys))) (λ c. lists.Contains-later z x (y ∷ ys) c)),
       )
       step r (inr (inl e)) = (y ∷ ys, s, λ z. ((λ c. inr c), ⊎_elim (λ q. subst (Contains (y ∷ ys)) (sym e ∙ q) (lists.Contains-here y ys)) (λ c. c)))
       step r (inr (inr b)) = (
         y ∷ r.0,
-        in_front y r.0 (λ z c. ⊎_elim (λ e. subst (Before y) e b) (λ d. after_head y ys s z d) ((r.2 z).0 c)) r.1,
+        in_front y r.0 (λ z c. ⊎_elim (λ e. subst (Before y) e b) (λ d. AllPairs-first Before y z ys s d) ((r.2 z).0 c)) r.1,
         λ z. (
           (λ c. ⊎_elim (λ e. inr (subst (Contains (y ∷ ys)) e (lists.Contains-here y ys))) (λ d. ⊎_elim (λ e. inl e) (λ m. inr (lists.Contains-later z y ys m)) ((r.2 z).0 d)) (lists.Contains-cases z y r.0 c)),
           ⊎_elim (λ e. lists.Contains-later z y r.0 ((r.2 z).1 (inl e)))

@@ -9,7 +9,7 @@ use Rattle.lattice_algebra.proofs.Numbers.{above}
 use Rattle.lattice_algebra.proofs.Columns.{cancel_column, same_right, swap_columns}
 use Rattle.lattice_algebra.proofs.MatrixRing.{matrix_at, column_at, ◌·ˢ◌, ◌·ˢᶜ◌, ◌+ˢᶜ◌, sym_times, sym_neg, sym_identity, sym_origin, column_ring}
 use Rattle.lattice_algebra.proofs.Matrices.{·_assoc, identity-·, ·-identity, inverse_matrix-·, ·-inverse_matrix, IsUnimodular-identity}
-use Rattle.lattice_algebra.proofs.Remainders.{modulo_is, modulo_same, modulo_part, modulo_parts, quotients, quotients_are}
+use Rattle.lattice_algebra.proofs.Remainders.{modulo_is, modulo_same, modulo_part, modulo_parts, whole_part}
 use Rattle.lattice_algebra.proofs.Equality.{operator_eq, operator_eq-is}
 
 pub map_path : (f g : Map) → f.w ≡ g.w → f.s ≡ g.s → f ≡ g
@@ -147,9 +147,6 @@ abbrev pub shifted : ℕ → Operator → Column → Map
 shifted unit f k = record { w = f.w; s = f.t +ᶜ times (pos unit) k }
 
 module _ (unit : ℕ) (some : 0 < unit) where
-  pub shift_exists : (g : Map) → (k : Column) × IsShift unit g k
-  shift_exists g = (quotients unit g.s, quotients_are unit some g.s)
-
   pub one_shift : (g : Map) (j k : Column) → IsShift unit g j → IsShift unit g k → j ≡ k
   one_shift g j k p q = cancel_column (pos unit) j k (above unit some) (same_right (modulo unit g.s) (times (pos unit) j) (times (pos unit) k) (sym p ∙ q))
 
@@ -183,5 +180,5 @@ module _ (unit : ℕ) (some : 0 < unit) where
   pub shift_of : (f : Operator) (g : Map) → operator_of unit g ≡ f → (k : Column) × (g ≡ shifted unit f k)
   unfolding operator_of
   shift_of f g e =
-      let k = shift_exists g in
+      let k = whole_part unit some g.s in
       (k.0, map_path g (shifted unit f k.0) (ap (λ (h : Operator). h.w) e) (k.1 ∙ ap (λ (h : Operator). h.t +ᶜ times (pos unit) k.0) e))

@@ -98,3 +98,7 @@ quotients n c = record { x = int_div_euclid c.x (pos n); y = int_div_euclid c.y 
 pub quotients_are : (n : ℕ) → 0 < n → (c : Column) → c ≡ modulo n c +ᶜ times (pos n) (quotients n c)
 unfolding modulo ◌+ᶜ◌ times quotients
 quotients_are n h c = λ i. record { x = quotient_is n h c.x i; y = quotient_is n h c.y i; z = quotient_is n h c.z i }
+
+-- a column is its remainder and a multiple of n
+pub whole_part : (n : ℕ) → 0 < n → (c : Column) → (k : Column) × (c ≡ modulo n c +ᶜ times (pos n) k)
+whole_part n h c = (quotients n c, quotients_are n h c)

@@ -20,6 +20,7 @@ use Rattle.lattice_algebra.specs.Point.{IsPoint, ◌≈◌, image}
 use Rattle.lattice_algebra.proofs.Columns.{cancel_column}
 use Rattle.lattice_algebra.proofs.Points.{≈_sym, ≈_trans, IsPoint-image}
 use Rattle.finite_groups.proofs.Members as lists
+use Rattle.finite_groups.proofs.Pairs.{one_list_in_order}
 use Rattle.exact_ops.specs.declared.point.Point.{Point}
 use Rattle.exact_ops.specs.declared.TheConstants.{UNIT}
 use Rattle.exact_ops.specs.Numbers.{point_in}
@@ -30,7 +31,7 @@ use Rattle.space_groups.specs.Keys.{IsBelow}
 use Rattle.space_groups.proofs.Orbits.{in_cell, cell_operator, orbit, orbit_is}
 use Rattle.space_groups.proofs.OrbitLists.{stays_in_cell, orbit_points, orbit_list}
 use Rattle.space_groups.proofs.Points.{scaled_of, IsPoint-scaled, image_of}
-use Rattle.space_groups.proofs.Ordered.{not_below_itself, below_on, one_list}
+use Rattle.space_groups.proofs.Ordered.{not_below_itself, below_on}
 use Rattle.space_groups.proofs.Elements.{SpaceGroup}
 use Rattle.orbit_map.specs.OrderedOrbit.{IsOrderedOrbit, IsScaled}
 use Rattle.orbit_map.specs.Steps.{IsPlaced, stored_cmp}
@@ -182,5 +183,5 @@ in_other members x a b px p q z c =
 
 pub one_orbit : (members : List Operator) (x : rational.Point) (a b : List rational.Point) → IsPoint x → IsOrderedOrbit members x a → IsOrderedOrbit members x b → a ≡ b
 one_orbit members x a b px p q =
-    one_list (λ (p q : rational.Point). IsBelow (coordinates p.n) (coordinates q.n)) (λ p. not_below_itself (coordinates p.n)) (λ p q r. below_on (coordinates p.n) (coordinates q.n) (coordinates r.n)) a b p.ascending q.ascending
+    one_list_in_order (λ (p q : rational.Point). IsBelow (coordinates p.n) (coordinates q.n)) a b (λ u v c d l m. not_below_itself (coordinates u.n) (below_on (coordinates u.n) (coordinates v.n) (coordinates u.n) l m)) p.ascending q.ascending
     (λ z. (in_other members x a b px p q z, in_other members x b a px q p z))

@@ -14,7 +14,7 @@ use Rattle.finite_groups.proofs.Sorting.{sorted}
 use Rattle.exact_ops.specs.declared.point.Point.{Point}
 use Rattle.exact_ops.specs.Numbers.{point_in}
 use Rattle.space_groups.specs.Keys.{IsBelow}
-use Rattle.space_groups.proofs.Ordered.{below_on}
+use Rattle.space_groups.proofs.Ordered.{below_on, which_below}
 use Rattle.orbit_map.specs.Steps.{stored_cmp}
 
 pub stored_cmp_total : IsTotalOrder stored_cmp
@@ -82,19 +82,6 @@ key p = p.d ∷ coordinates p.n
 
 abbrev pub ComesBefore : rational.Point → rational.Point → Type 0
 ComesBefore p q = IsBelow (key p) (key q)
-
-which_below : (xs ys : List ℤ) → IsBelow xs ys ⊎ ((xs ≡ ys) ⊎ IsBelow ys xs)
-which_below [] [] = inr (inl refl)
-which_below [] (y ∷ ys) = inl tt
-which_below (x ∷ xs) [] = inr (inr tt)
-which_below (x ∷ xs) (y ∷ ys) = step (int_cmp x y) (int_ranked x y (int_cmp x y) refl) (which_below xs ys)
-  where
-    step : (o : Ordering) → MatchOrdering o (x <ℤ y) (x ≡ y) (y <ℤ x) → IsBelow xs ys ⊎ ((xs ≡ ys) ⊎ IsBelow ys xs) → IsBelow (x ∷ xs) (y ∷ ys) ⊎ ((x ∷ xs ≡ y ∷ ys) ⊎ IsBelow (y ∷ ys) (x ∷ xs))
-    step Less m r = inl (inl m)
-    step Equal m (inl b) = inl (inr (m, b))
-    step Equal m (inr (inl e)) = inr (inl (ap₂ (λ (a : ℤ) (l : List ℤ). a ∷ l) m e))
-    step Equal m (inr (inr b)) = inr (inr (inr (sym m, b)))
-    step Greater m r = inr (inr (inl m))
 
 at_key : List ℤ → rational.Point
 at_key [] = record { n = column_of []; d = pos 0 }

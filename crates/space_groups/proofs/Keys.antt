@@ -1,13 +1,13 @@
 -- Keys: two averages have one key exactly where an element carries the image of one onto that of the other; and finitely many elements are enough to find the key.
-use Rattle.std.proofs.Common.{◌≡◌, ◌++◌, ◌∷◌, [], ℕ, ◌*◌, ◌<◌, inl, inr, ◌↔◌, List, ℤ, pos, ◌*ℤ◌, ◌<ℤ◌, Contains, ap, ap₂, sym, ◌∙◌, refl, subst, arith}
+use Rattle.std.proofs.Common.{◌≡◌, ◌++◌, ◌∷◌, [], ℕ, ◌*◌, ◌<◌, inl, inr, ⊎_elim, ◌↔◌, List, ℤ, pos, ◌*ℤ◌, ◌<ℤ◌, Contains, ap, ap₂, sym, ◌∙◌, refl, subst, arith}
 use Rattle.std.proofs.lemmas.Int.{ints}
 use Rattle.lattice_algebra.specs.Matrix.{Matrix, Column, entries, coordinates, ◌·◌, ◌·ᶜ◌, ◌+ᶜ◌, neg_column, times, scaled, origin, det, adjugate, matrix_of, column_of}
 use Rattle.lattice_algebra.specs.Operator.{Operator, modulo, AreParts}
 use Rattle.lattice_algebra.specs.Map.{Map, ◌∘◌, undo, operator_of}
 use Rattle.lattice_algebra.proofs.Ring.{var, con, ◌⊗◌, ring}
 use Rattle.lattice_algebra.proofs.MatrixRing.{matrix_at, column_at, ◌·ˢ◌, ◌·ˢᶜ◌, ◌+ˢᶜ◌, sym_times, sym_neg, sym_scaled, sym_identity, sym_origin, column_ring, matrix_ring}
-use Rattle.lattice_algebra.proofs.Remainders.{modulo_is, modulo_same, modulo_parts}
-use Rattle.lattice_algebra.proofs.Maps.{map_path}
+use Rattle.lattice_algebra.proofs.Remainders.{modulo_is, modulo_same, modulo_parts, whole_part}
+use Rattle.lattice_algebra.proofs.Maps.{map_path, shifted}
 use Rattle.lattice_algebra.proofs.Numbers.{above, positive_product}
 use Rattle.lattice_algebra.proofs.Columns.{cancel_column, difference}
 use Rattle.finite_groups.proofs.Keys as first
@@ -20,20 +20,13 @@ use Rattle.space_groups.proofs.Elements.{SpaceGroup, space}
 use Rattle.space_groups.proofs.Means as means
 use Rattle.space_groups.proofs.Means.{Averaged}
 use Rattle.space_groups.proofs.Carried.{carried-∘, carried-number, on_blocks, image_along, carried_idempotent, IsOwn, carried_same}
-use Rattle.space_groups.proofs.Regions.{shift_in, whole_part}
+use Rattle.space_groups.proofs.Regions.{shift_in}
+use Rattle.space_groups.proofs.Ordered.{which_below}
 
 -- ---- the order
 
-cases_ℤ : (x y : ℤ) → (x <ℤ y → ⊥) → (y <ℤ x → ⊥) → x ≡ y
-cases_ℤ x y p q = grind (arith, ints)
-
 same_lists : (xs ys : List ℤ) → (IsBelow xs ys → ⊥) → (IsBelow ys xs → ⊥) → xs ≡ ys
-same_lists [] [] p q = refl
-same_lists [] (y ∷ ys) p q = absurd (p tt)
-same_lists (x ∷ xs) [] p q = absurd (q tt)
-same_lists (x ∷ xs) (y ∷ ys) p q =
-    let e = cases_ℤ x y (λ l. p (inl l)) (λ l. q (inl l)) in
-    ap₂ (λ (a : ℤ) (rest : List ℤ). a ∷ rest) e (same_lists xs ys (λ l. p (inr (e, l))) (λ l. q (inr (sym e, l))))
+same_lists xs ys p q = ⊎_elim (λ b. absurd (p b)) (λ r. ⊎_elim (λ e. e) (λ b. absurd (q b)) r) (which_below xs ys)
 
 pub same_entries : (m n : Matrix) → entries m ≡ entries n → m ≡ n
 same_entries m n e = ap matrix_of e
@@ -111,11 +104,11 @@ unfolding undo det adjugate scaled neg_column ◌·ᶜ◌ times
 undo_shift unit k = map_path _ _ refl (column_ring (pos unit ∷ coordinates k) (sym_neg (sym_identity ·ˢᶜ sym_times (var 0) (column_at 1))) (sym_times (var 0) (sym_neg (column_at 1))) tt)
 
 -- t + u n k - u M k
-unfoldable pub shifted : ℤ → Column → Block → Block
-shifted u k a = record { m = a.m; t = a.t +ᶜ (times (u *ℤ a.n) k +ᶜ neg_column (times u (a.m ·ᶜ k))); n = a.n }
+unfoldable pub shifted_block : ℤ → Column → Block → Block
+shifted_block u k a = record { m = a.m; t = a.t +ᶜ (times (u *ℤ a.n) k +ᶜ neg_column (times u (a.m ·ᶜ k))); n = a.n }
 
-pub carried_shift : (unit : ℕ) (k : Column) (a : Block) → carried (shift_by unit k) a ≡ shifted (pos unit) k a
-unfolding carried shifted block_times block_of ◌·◌ ◌·ᶜ◌ ◌+ᶜ◌ times neg_column
+pub carried_shift : (unit : ℕ) (k : Column) (a : Block) → carried (shift_by unit k) a ≡ shifted_block (pos unit) k a
+unfolding carried shifted_block block_times block_of ◌·◌ ◌·ᶜ◌ ◌+ᶜ◌ times neg_column
 carried_shift unit k a =
     let r = pos unit ∷ a.n ∷ (entries a.m ++ (coordinates a.t ++ coordinates k)) in
     let U = var 0 in
@@ -149,7 +142,7 @@ add_nothing t k u = column_ring (u ∷ (coordinates t ++ coordinates k)) (column
 
 -- idempotent blocks that agree but for whole numbers are carried onto each other by a whole shift
 pub same_by_shift : (unit n : ℕ) → 0 < unit → 0 < n → (a b : Block) → a.n ≡ pos n → b.n ≡ pos n → block_times a a ≡ block_scaled a.n a → block_times b b ≡ block_scaled b.n b → key_of unit n a ≡ key_of unit n b → (k : Column) × (carried (shift_by unit k) a ≡ b)
-unfolding key_of shifted
+unfolding key_of shifted_block
 same_by_shift unit n hu hn a b p q two two' e =
     let h = positive_product unit n hu hn in
     let i = modulo_is (unit * n) h a.t in
@@ -220,12 +213,8 @@ same_candidate unit q n h r a number whole w s j =
 module _ (L : SpaceGroup) where
   open L use {unit, some, members, closed}
 
-  -- the element of a member with a whole shift
-  abbrev pub element_of : Operator → Column → Map
-  element_of f k = record { w = f.w; s = f.t +ᶜ times (pos unit) k }
-
   pub candidate : (q n : ℕ) → 0 < q → 0 < n → (r : Matrix) (a : Block) → a.n ≡ pos n → IsWhole q r a → (g : Map) → IsElement unit members g
-      → (f : Operator) × (k : Column) × Contains members f × AreParts q k × (key_of unit n (carried g a) ≡ key_of unit n (carried (element_of f k) a))
+      → (f : Operator) × (k : Column) × Contains members f × AreParts q k × (key_of unit n (carried g a) ≡ key_of unit n (carried (shifted unit f k) a))
   unfolding operator_of
   candidate q n hq hn r a number whole g m =
       let c = whole_part unit some g.s in
@@ -243,7 +232,7 @@ module _ (L : SpaceGroup) where
 
   -- what the loop over members and shifts below q finds is the key
   pub key_from_candidates : (q n : ℕ) → 0 < q → 0 < n → (r : Matrix) (a : Block) → a.n ≡ pos n → IsWhole q r a → (p : Key) (g : Map) → IsElement unit members g → key_of unit n (carried g a) ≡ p
-      → ((f : Operator) (k : Column) → Contains members f → AreParts q k → ComesBefore (key_of unit n (carried (element_of f k) a)) p → ⊥) → IsKey unit members n a p
+      → ((f : Operator) (k : Column) → Contains members f → AreParts q k → ComesBefore (key_of unit n (carried (shifted unit f k) a)) p → ⊥) → IsKey unit members n a p
   key_from_candidates q n hq hn r a number whole p g m e h = record {
     by = g;
     element = m;

@@ -12,7 +12,7 @@ use Rattle.space_groups.proofs.RowSizes.{row_size}
 use Rattle.space_groups.specs.Averages.{Block, block_times, block_scaled}
 use Rattle.space_groups.specs.Regions.{Sizes, IsNear, IsInBox, IsReach, IsRowWithin, shift_by}
 use Rattle.space_groups.specs.Keys.{carried}
-use Rattle.space_groups.proofs.Keys.{shifted, carried_shift}
+use Rattle.space_groups.proofs.Keys.{shifted_block, carried_shift}
 use Rattle.space_groups.proofs.Blocks.{translation_part}
 
 -- t = u n f + r, moved by -f
@@ -62,7 +62,7 @@ abbrev pub sevens : Sizes
 sevens = record { x = 7; y = 7; z = 7 }
 
 moved_translation : (unit n : ℕ) (a : Block) (f r : Column) → a.n ≡ pos n → block_times a a ≡ block_scaled a.n a → a.t ≡ times (pos unit *ℤ pos n) f +ᶜ r → times (pos n) (carried (shift_by unit (neg_column f)) a).t ≡ times (pos n) r +ᶜ neg_column (a.m ·ᶜ r)
-unfolding shifted
+unfolding shifted_block
 moved_translation unit n a f r number two split =
     ap (λ (v : Block). times (pos n) v.t) (carried_shift unit (neg_column f) a)
     ∙ ap₂ (λ v k. times (pos n) (v +ᶜ (times (pos unit *ℤ k) (neg_column f) +ᶜ neg_column (times (pos unit) (a.m ·ᶜ neg_column f))))) split number

@@ -9,7 +9,7 @@ use Rattle.lattice_algebra.specs.Map.{Map, ◌∘◌, undo, operator_of, map_of}
 use Rattle.lattice_algebra.proofs.Ring.{var, ◌⊗◌}
 use Rattle.lattice_algebra.proofs.MatrixRing.{matrix_at, column_at, ◌·ˢᶜ◌, ◌+ˢᶜ◌, sym_times, sym_neg, column_ring}
 use Rattle.lattice_algebra.proofs.Remainders.{modulo_is, modulo_same}
-use Rattle.lattice_algebra.proofs.Maps.{operator_path, map_eq, map_eq-is, operator_of-map, product_is}
+use Rattle.lattice_algebra.proofs.Maps.{shifted, operator_of-shifted, map_eq, map_eq-is, operator_of-map, product_is}
 use Rattle.lattice_algebra.proofs.Operators.{operators}
 use Rattle.lattice_algebra.proofs.Numbers.{positive_product}
 use Rattle.lattice_algebra.proofs.Columns.{difference}
@@ -90,13 +90,9 @@ undone : (p k : Column) (u : ℤ) → p +ᶜ times u k +ᶜ times u (neg_column 
 unfolding ◌+ᶜ◌ times neg_column
 undone p k u = column_ring (u ∷ (coordinates p ++ coordinates k)) (column_at 1 +ˢᶜ sym_times (var 0) (column_at 4) +ˢᶜ sym_times (var 0) (sym_neg (column_at 4))) (column_at 1) tt
 
-moved_back : (f : Operator) (y : ScaledPoint) (k : Column) (unit : ℕ) → (moved (map_of f) y).n ≡ y.n +ᶜ times (pos (unit * y.d)) k → moved (record { w = f.w; s = f.t +ᶜ times (pos unit) (neg_column k) }) y ≡ y
+moved_back : (f : Operator) (y : ScaledPoint) (k : Column) (unit : ℕ) → (moved (map_of f) y).n ≡ y.n +ᶜ times (pos (unit * y.d)) k → moved (shifted unit f (neg_column k)) y ≡ y
 unfolding moved
 moved_back f y k unit e = scaled_path _ y (whole_shift f.w y.n f.t (neg_column k) (pos y.d) (pos unit) ∙ ap (λ v. v +ᶜ times (pos (unit * y.d)) (neg_column k)) e ∙ undone y.n k (pos (unit * y.d))) refl
-
-same_operator : (unit : ℕ) → 0 < unit → (f : Operator) (k : Column) → operator_of unit (map_of f) ≡ f → operator_of unit (record { w = f.w; s = f.t +ᶜ times (pos unit) k }) ≡ f
-unfolding operator_of
-same_operator unit h f k e = operator_path _ f refl (modulo_same unit h (f.t +ᶜ times (pos unit) k) f.t k refl ∙ ap (λ (v : Operator). v.t) e)
 
 module _ (L : SpaceGroup) where
   open L use {unit, some, members, closed}
@@ -124,9 +120,9 @@ module _ (L : SpaceGroup) where
   place_fixer y f c e =
       let a = cell_apart unit some (moved (map_of f) y) y e in
       let k = neg_column a.0 in
-      let m : Map = record { w = f.w; s = f.t +ᶜ times (pos unit) k } in
+      let m = shifted unit f k in
       let fix : moved m y ≡ y = moved_back f y a.0 unit a.1 in
-      let op : operator_of unit m ≡ f = same_operator unit some f k (operator_of-map unit some f (All-contains (IsOperator unit) members f closed.valid c)) in
+      let op : operator_of unit m ≡ f = operator_of-shifted unit some f k (All-contains (IsOperator unit) members f closed.valid c) in
       let q : fixer L y f ≡ m = ap (fixer L y) (sym op) ∙ fixer_of L y m fix in
       (subst (λ v. moved v y ≡ y) (sym q) fix, ap (operator_of unit) q ∙ op)
 

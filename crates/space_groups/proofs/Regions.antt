@@ -8,7 +8,7 @@ use Rattle.lattice_algebra.specs.Operator.{modulo, IsPart, AreParts, identity_op
 use Rattle.lattice_algebra.specs.Map.{Map, operator_of}
 use Rattle.lattice_algebra.proofs.Ring.{var, ◌⊕◌, ◌⊖◌, ◌⊗◌, ring}
 use Rattle.lattice_algebra.proofs.MatrixRing.{matrix_at, column_at, ◌·ˢ◌, ◌·ˢᶜ◌, ◌+ˢᶜ◌, sym_times, sym_neg, sym_scaled, sym_identity, sym_origin, column_ring, matrix_ring}
-use Rattle.lattice_algebra.proofs.Remainders.{modulo_same, modulo_part, modulo_parts, quotients, quotients_are}
+use Rattle.lattice_algebra.proofs.Remainders.{modulo_same, modulo_part, modulo_parts, whole_part}
 use Rattle.lattice_algebra.proofs.Maps.{operator_path}
 use Rattle.lattice_algebra.proofs.Numbers.{above, positive_product, abs_add, abs_sub, rounded}
 use Rattle.space_groups.proofs.RowSizes.{row_size}
@@ -34,12 +34,6 @@ shift_operator unit h k = operator_path _ _ refl (modulo_same unit h (times (pos
 
 pub shift_in : (L : SpaceGroup) (k : Column) → IsElement L.unit L.members (shift_by L.unit k)
 shift_in L k = subst (Contains L.members) (sym (shift_operator L.unit L.some k)) L.closed.has_one
-
--- ---- whole parts
-
--- a column is its remainder and a multiple of n
-pub whole_part : (n : ℕ) → 0 < n → (s : Column) → (k : Column) × (s ≡ modulo n s +ᶜ times (pos n) k)
-whole_part n h s = (quotients n s, quotients_are n h s)
 
 -- ---- the moved point
 
