@@ -1,12 +1,11 @@
 -- Points made from coordinates are in range.
-use Rattle.std.proofs.Common.{◌≡◌, ◌≤◌, ◌<◌, ◌*◌, ◌^◌, ◌↔◌, ℕ, zero, suc, ℤ, pos, negsuc, ◌*ℤ◌, ◌≤ℤ◌, ◌<ℤ◌, unsigned_abs, Bool, IsTrue, List, [], ◌∷◌, ap, ◌∙◌, subst, refl, arith, w64, to_z-of_z, FitsSigned, mul-le-mul, le_refl}
+use Rattle.std.proofs.Common.{◌≡◌, ◌≤◌, ◌<◌, ◌*◌, ◌↔◌, ℕ, zero, suc, ℤ, pos, negsuc, ◌*ℤ◌, ◌≤ℤ◌, ◌<ℤ◌, unsigned_abs, Bool, IsTrue, List, [], ◌∷◌, ap, ◌∙◌, subst, refl, arith, w64, to_z-of_z, FitsSigned, mul-le-mul, le_refl}
 use Rattle.std.proofs.lemmas.Int.{ints, unsigned_abs-mul}
 use mir.Syntax.{w128}
-use Rattle.std.specs.Int.{int_rem_euclid}
 use Rattle.lattice_algebra.specs.Point.{Point}
-use Rattle.lattice_algebra.proofs.Ring.{var, con, ◌⊕◌, ◌⊗◌, ring}
+use Rattle.lattice_algebra.proofs.Ring.{var, con, ◌⊗◌, ring}
 use Rattle.lattice_algebra.proofs.Machine.{back, read, value-size}
-use Rattle.lattice_algebra.proofs.Remainders.{rem_same, rem_part}
+use Rattle.lattice_algebra.proofs.Remainders.{rem_of_times}
 use Rattle.exact_ops.specs.declared.TheConstants.{UNIT, MAX_COORDINATE, MAX_DENOMINATOR}
 use Rattle.exact_ops.specs.Points.{point_with, IsPointInRange, coordinate_at, IsCoordinateInRange, AreCoordinatesInRange, HasCoordinates}
 use Rattle.exact_ops.proofs.Narrow.{some_parts}
@@ -36,9 +35,6 @@ positive (pos (suc a)) (pos zero) w p q r = absurd (omega (arith, ints))
 positive (pos (suc a)) (negsuc b) w p q r = absurd (omega (arith, ints))
 positive (pos (suc a)) (pos (suc b)) (pos zero) p q r = absurd (omega (arith, ints))
 positive (pos (suc a)) (pos (suc b)) (negsuc c) p q r = absurd (omega (arith, ints))
-
-multiple : (k : ℤ) → int_rem_euclid (pos UNIT *ℤ k) (pos UNIT) ≡ pos 0
-multiple k = rem_same UNIT some_parts (pos UNIT *ℤ k) (pos 0) k (ring (pos UNIT ∷ k ∷ []) (var 0 ⊗ var 1) (con (pos 0) ⊕ var 0 ⊗ var 1) tt) ∙ rem_part UNIT some_parts (pos 0) (omega (arith, ints))
 
 size_of : (u : ℤ) → pos 1 ≤ℤ u → u ≤ℤ pos MAX_DENOMINATOR → unsigned_abs u ≤ MAX_DENOMINATOR
 size_of u p q = omega (arith, ints)
@@ -79,7 +75,7 @@ IsPointInRange-units x u y v z w p q r =
     let last : units w u v ≡ units u v w = ring (pos UNIT ∷ u ∷ v ∷ w ∷ []) (var 0 ⊗ (var 3 ⊗ var 1 ⊗ var 2)) (var 0 ⊗ (var 1 ⊗ var 2 ⊗ var 3)) tt in
     record {
       positive = positive u v w p.1 q.1 r.1;
-      multiple = multiple (u *ℤ v *ℤ w);
+      multiple = rem_of_times UNIT some_parts (u *ℤ v *ℤ w);
       denominator = denominator u v w (size_of u p.1 p.2) (size_of v q.1 q.2) (size_of w r.1 r.2);
       within = record {
         first = coordinate_within x u v w p.0 p.1;

@@ -1,5 +1,5 @@
 -- Images that are shifted by whole cells.
-use Rattle.std.proofs.Common.{◌≡◌, ◌≤◌, ◌*◌, ◌^◌, ◌↔◌, ℕ, ℤ, pos, ◌+ℤ◌, ◌*ℤ◌, ◌≤ℤ◌, ◌<ℤ◌, unsigned_abs, List, [], ◌∷◌, slice_index_or, ap, refl, sym, subst, ◌∙◌, w64, FitsSigned, mul-le-mul, le_refl, le_trans}
+use Rattle.std.proofs.Common.{◌≡◌, ◌≤◌, ◌*◌, ◌↔◌, ℕ, ℤ, pos, ◌+ℤ◌, ◌*ℤ◌, ◌≤ℤ◌, ◌<ℤ◌, unsigned_abs, List, [], ◌∷◌, slice_index_or, ap, refl, sym, subst, ◌∙◌, w64, FitsSigned}
 use mir.Syntax.{w128}
 use Rattle.std.specs.Int.{int_rem_euclid}
 use lib.IntN.{*ℤ_comm}
@@ -9,7 +9,7 @@ use Rattle.lattice_algebra.specs.Map.{map_of}
 use Rattle.lattice_algebra.specs.Point.{Point, IsPoint, ◌≈◌, image, HasCoordinatesWithin}
 use Rattle.lattice_algebra.proofs.Machine.{back, kept, read}
 use Rattle.lattice_algebra.proofs.Points.{≈_sym, IsPoint-image, image-shifted, HasCoordinatesWithin-same}
-use Rattle.exact_ops.specs.declared.TheConstants.{UNIT, MAX_COORDINATE, MAX_DENOMINATOR, MAX_SHIFT}
+use Rattle.exact_ops.specs.declared.TheConstants.{UNIT, MAX_COORDINATE, MAX_SHIFT}
 use Rattle.exact_ops.specs.Points.{point_with, IsPointInRange}
 use Rattle.exact_ops.specs.Moves.{map_with, IsShiftInRange}
 use Rattle.exact_ops.proofs.Narrow.{some_parts}

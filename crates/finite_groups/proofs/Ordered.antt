@@ -1,11 +1,10 @@
 -- Lists in strict order: two with the same members are one list.
-use Rattle.std.proofs.Common.{◌≡◌, ◌≢◌, ◌↔◌, ◌+◌, List, [], ◌∷◌, refl, sym, ap, ap₂, ◌∙◌, subst, get_or, arith, false, Contains, AllPairs, IsSortedBy, ⊎_elim, Ordering, Less, Equal, Greater}
+use Rattle.std.proofs.Common.{◌≡◌, ◌≢◌, ◌↔◌, ◌+◌, List, ◌∷◌, refl, sym, ap, ◌∙◌, get_or, arith, false, Contains, AllPairs, IsSortedBy, Ordering, Less, Equal, Greater}
 use Rattle.std.specs.Cmp.{IsTotalOrder}
 use Rattle.std.specs.Ordering.{ordering_reverse, is_lt}
 use Rattle.std.specs.List.Sorted.{IsStrictlySortedBy}
 use Rattle.std.proofs.lemmas.Bool.{true≢false}
 use Rattle.std.proofs.lemmas.Map.Keys.{Less-from_sorted, sorted_from_all_adjacent}
-use Rattle.std.proofs.lemmas.List.Elements.{All-contains, All-from_recursion}
 use Rattle.finite_groups.proofs.Pairs.{in_rest, one_list_in_order}
 
 module _ {X : Type 0} (R : X → X → Ordering) (total : IsTotalOrder R) where

@@ -1,5 +1,5 @@
 -- The members of each list, in strict order.
-use Rattle.std.proofs.Common.{◌≡◌, ◌∷◌, [], suc, ◌⊎◌, inl, inr, ⊎_elim, ◌↔◌, List, Contains, AllPairs, get_or, sym, ◌∙◌, subst, arith}
+use Rattle.std.proofs.Common.{◌≡◌, ◌∷◌, [], ◌⊎◌, inl, inr, ⊎_elim, ◌↔◌, List, Contains, AllPairs, get_or, sym, ◌∙◌, subst, arith}
 use Rattle.std.proofs.lemmas.List.Elements.{Contains-get_or}
 use Rattle.std.proofs.lemmas.List.Kept.{AllPairs-cons}
 use Rattle.finite_groups.proofs.Members as lists

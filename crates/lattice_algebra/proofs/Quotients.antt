@@ -1,8 +1,8 @@
 -- Quotients that are whole.
-use Rattle.std.proofs.Common.{◌≡◌, ◌∷◌, [], ◌≤◌, ◌<◌, ◌*◌, ℕ, ℤ, pos, negsuc, ◌+ℤ◌, ◌-ℤ◌, ◌*ℤ◌, ◌<ℤ◌, unsigned_abs, int_div, int_rem, ap, ◌∙◌, arith}
+use Rattle.std.proofs.Common.{◌≡◌, ◌∷◌, [], ◌≤◌, ◌<◌, ◌*◌, ℕ, ℤ, pos, ◌+ℤ◌, ◌-ℤ◌, ◌*ℤ◌, unsigned_abs, int_div, int_rem, ap, ◌∙◌, arith}
 use Rattle.std.proofs.lemmas.Int.{ints, quot-rem, rem_below, unsigned_abs-mul}
 use Rattle.lattice_algebra.proofs.Ring.{known, var, con, ◌⊕◌, ◌⊖◌, ◌⊗◌, ring, ring_from}
-use Rattle.lattice_algebra.proofs.Numbers.{digit}
+use Rattle.lattice_algebra.proofs.Numbers.{small_multiple}
 
 rest_is : (q r n k d : ℤ) → q *ℤ d +ℤ r ≡ n → n ≡ k *ℤ d → r ≡ (k -ℤ q) *ℤ d
 rest_is q r n k d e f =
@@ -17,26 +17,20 @@ none_left : (x r d : ℤ) → r ≡ x *ℤ d → x ≡ pos 0 → r ≡ pos 0
 none_left x r d e z = e ∙ ap (λ v. v *ℤ d) z ∙ ring (d ∷ []) (con (pos 0) ⊗ var 0) (con (pos 0)) tt
 
 -- a multiple leaves no remainder
-pub rem_of_multiple : (n d k : ℤ) → pos 0 <ℤ d → n ≡ k *ℤ d → int_rem n d ≡ pos 0
-rem_of_multiple n (pos m) k p e =
-    let r = rest_is (int_div n (pos m)) (int_rem n (pos m)) n k (pos m) (quot-rem n (pos m)) e in
-    let some : 0 < m = omega (arith, ints) in
-    none_left (k -ℤ int_div n (pos m)) (int_rem n (pos m)) (pos m) r (digit m (k -ℤ int_div n (pos m)) (int_rem n (pos m)) r (rem_below n (pos m) some))
-rem_of_multiple n (negsuc m) k p e = absurd (omega (arith, ints))
-
-sum_with_nothing : (a r n : ℤ) → a +ℤ r ≡ n → r ≡ pos 0 → n ≡ a
-sum_with_nothing a r n e z = omega (arith, ints)
+pub rem_of_multiple : (n d k : ℤ) → 0 < unsigned_abs d → n ≡ k *ℤ d → int_rem n d ≡ pos 0
+rem_of_multiple n d k some e =
+    let r = rest_is (int_div n d) (int_rem n d) n k d (quot-rem n d) e in
+    none_left (k -ℤ int_div n d) (int_rem n d) d r (small_multiple d (k -ℤ int_div n d) (int_rem n d) r (rem_below n d some))
 
 -- and what leaves none is one
 pub multiple_of_quotient : (n d : ℤ) → int_rem n d ≡ pos 0 → n ≡ int_div n d *ℤ d
-multiple_of_quotient n d z = sum_with_nothing (int_div n d *ℤ d) (int_rem n d) n (quot-rem n d) z
+multiple_of_quotient n d z = let e = quot-rem n d in omega (arith, ints, e, z)
 
 cancel_size : (a m d : ℕ) → 0 < d → a * d ≤ m * d → a ≤ m
 cancel_size a m d h l = grind arith
 
 -- the size of the quotient
-pub quotient_within : (n d k : ℤ) (m : ℕ) → pos 0 <ℤ d → n ≡ k *ℤ d → unsigned_abs n ≤ m * unsigned_abs d → unsigned_abs k ≤ m
-quotient_within n d k m p e h =
+pub quotient_within : (n d k : ℤ) (m : ℕ) → 0 < unsigned_abs d → n ≡ k *ℤ d → unsigned_abs n ≤ m * unsigned_abs d → unsigned_abs k ≤ m
+quotient_within n d k m some e h =
     let s : unsigned_abs n ≡ unsigned_abs k * unsigned_abs d = ap unsigned_abs e ∙ unsigned_abs-mul k d in
-    let some : 0 < unsigned_abs d = omega (arith, ints) in
     cancel_size (unsigned_abs k) m (unsigned_abs d) some (omega (arith, s, h))

@@ -1,10 +1,10 @@
 -- Remainders by a positive number, of numbers and of columns.
-use Rattle.std.proofs.Common.{◌≡◌, ℕ, zero, suc, [], ◌+◌, ◌-◌, ◌*◌, ◌/◌, ◌%◌, ◌<◌, ℤ, pos, negsuc, ◌*ℤ◌, ◌+ℤ◌, neg_ℤ, ap, sym, ◌∙◌, arith, refl, ◌∷◌}
+use Rattle.std.proofs.Common.{◌≡◌, ℕ, zero, suc, [], ◌+◌, ◌-◌, ◌*◌, ◌/◌, ◌%◌, ◌<◌, ℤ, pos, negsuc, ◌*ℤ◌, ◌+ℤ◌, neg_ℤ, ap, sym, ◌∙◌, arith, ◌∷◌}
 use Rattle.std.specs.Int.{int_div_euclid, int_rem_euclid}
 use Rattle.std.proofs.lemmas.Int.{ints}
-use borrow.Author.Differences.{up, down, same_in, sum_is_lem, product_is, neg_is}
 use lib.IntN.{+ℤ_idr, *ℤ-zero}
-use Rattle.lattice_algebra.proofs.Ring.{var, ◌⊕◌, ◌⊗◌, neg, ring}
+use Rattle.lattice_algebra.proofs.Ring.{known, var, con, ◌⊕◌, ◌⊗◌, neg, ring, ring_from}
+use Rattle.lattice_algebra.proofs.Numbers.{above, cancel_number}
 use Rattle.lattice_algebra.specs.Matrix.{Column, ◌+ᶜ◌, times}
 use Rattle.lattice_algebra.specs.Operator.{modulo, IsPart, AreParts}
 
@@ -12,22 +12,30 @@ rem_bounds : (n : ℕ) → 0 < n → (z : ℤ) → IsPart n (int_rem_euclid z (p
 rem_bounds n h (pos a) = let l : a % n < n = omega arith in omega (arith, ints)
 rem_bounds n h (negsuc a) = let l : a % n < n = omega arith in omega (arith, ints)
 
-neg_pos : (q : ℕ) → (up (neg_ℤ (pos q)) ≡ 0) × (down (neg_ℤ (pos q)) ≡ q)
-neg_pos zero = (refl, refl)
-neg_pos (suc q) = (refl, refl)
+-- a number is its remainder and n times its quotient
+pub quotient_is : (n : ℕ) → 0 < n → (z : ℤ) → z ≡ int_rem_euclid z (pos n) +ℤ pos n *ℤ int_div_euclid z (pos n)
+quotient_is n h (pos a) = ap pos (let e : a ≡ a % n + n * (a / n) = omega arith in e)
+quotient_is n h (negsuc a) = below (a % n) (a / n) (omega arith) (omega arith)
+  where
+    below : (r q : ℕ) → n * q + r ≡ a → r < n → negsuc a ≡ pos (n - 1 - r) +ℤ pos n *ℤ negsuc q
+    below r q e l =
+        let f : pos n *ℤ negsuc q ≡ neg_ℤ (pos (n * suc q)) = ring (pos n ∷ pos (suc q) ∷ []) (var 0 ⊗ neg (var 1)) (neg (var 0 ⊗ var 1)) tt in
+        let g : n * suc q ≡ n * q + n = omega arith in
+        omega (arith, ints)
 
-split_pos : (n a q r : ℕ) → n * q + r ≡ a → pos r ≡ pos a +ℤ pos n *ℤ neg_ℤ (pos q)
-split_pos n a q r e = same_in (pos r) (pos a +ℤ pos n *ℤ neg_ℤ (pos q)) (
-    let m = neg_is (pos q) in
-    omega (arith, sum_is_lem (pos a) (pos n *ℤ neg_ℤ (pos q)), product_is (pos n) (neg_ℤ (pos q)), m, ap (λ x. n * x) ((neg_pos q).0), ap (λ x. n * x) ((neg_pos q).1)))
-
-split_neg : (n a q r : ℕ) → n * q + r ≡ a → r < n → pos (n - 1 - r) ≡ negsuc a +ℤ pos n *ℤ pos (suc q)
-split_neg n a q r e l = let f : n * suc q ≡ n * q + n = omega arith in omega (arith, ints)
+remainder_left : (z r n q : ℤ) → z ≡ r +ℤ n *ℤ q → r ≡ z +ℤ n *ℤ neg_ℤ q
+remainder_left z r n q e =
+    let Z = var 0 in
+    let R = var 1 in
+    let N = var 2 in
+    let Q = var 3 in
+    ring_from (z ∷ r ∷ n ∷ q ∷ []) R (Z ⊕ N ⊗ neg Q) (known (neg (con (pos 1))) Z (R ⊕ N ⊗ Q) ∷ []) (e, tt) tt
 
 -- the remainder differs from z by a multiple of n
 pub rem_is : (n : ℕ) → 0 < n → (z : ℤ) → (k : ℤ) × (int_rem_euclid z (pos n) ≡ z +ℤ pos n *ℤ k) × IsPart n (int_rem_euclid z (pos n))
-rem_is n h (pos a) = (neg_ℤ (pos (a / n)), split_pos n a (a / n) (a % n) (omega arith), rem_bounds n h (pos a))
-rem_is n h (negsuc a) = (pos (suc (a / n)), split_neg n a (a / n) (a % n) (omega arith) (omega arith), rem_bounds n h (negsuc a))
+rem_is n h z =
+    let q = int_div_euclid z (pos n) in
+    (neg_ℤ q, remainder_left z (int_rem_euclid z (pos n)) (pos n) q (quotient_is n h z), rem_bounds n h z)
 
 too_far : (n j : ℕ) (x y : ℤ) → x ≡ y +ℤ pos (n * suc j) → IsPart n x → IsPart n y → ⊥
 too_far n j x y e p q = let f : n * suc j ≡ n * j + n = omega arith in omega (arith, ints)
@@ -52,18 +60,17 @@ rem_same n h x y k e =
 pub rem_part : (n : ℕ) → 0 < n → (x : ℤ) → IsPart n x → int_rem_euclid x (pos n) ≡ x
 rem_part n h x p = let a = rem_is n h x in one_place n _ _ a.0 a.1 a.2 p
 
--- a number is its remainder and n times its quotient
-pub quotient_is : (n : ℕ) → 0 < n → (z : ℤ) → z ≡ int_rem_euclid z (pos n) +ℤ pos n *ℤ int_div_euclid z (pos n)
-quotient_is n h (pos a) = ap pos (above a n)
-  where
-    above : (a n : ℕ) → a ≡ a % n + n * (a / n)
-    above a n = omega arith
-quotient_is n h (negsuc a) = below (a % n) (a / n) (split_neg n a (a / n) (a % n) (omega arith) (omega arith))
-  where
-    below : (r q : ℕ) → pos (n - 1 - r) ≡ negsuc a +ℤ pos n *ℤ pos (suc q) → negsuc a ≡ pos (n - 1 - r) +ℤ pos n *ℤ negsuc q
-    below r q e =
-        let f : pos n *ℤ negsuc q ≡ neg_ℤ (pos (n * suc q)) = ring (pos n ∷ pos (suc q) ∷ []) (var 0 ⊗ neg (var 1)) (neg (var 0 ⊗ var 1)) tt in
-        omega (arith, ints)
+pub rem_of_times : (n : ℕ) → 0 < n → (k : ℤ) → int_rem_euclid (pos n *ℤ k) (pos n) ≡ pos 0
+rem_of_times n h k = rem_same n h (pos n *ℤ k) (pos 0) k (omega (arith, ints)) ∙ rem_part n h (pos 0) (omega (arith, ints))
+
+sum_with_nothing : (r a z : ℤ) → z ≡ r +ℤ a → r ≡ pos 0 → a ≡ z
+sum_with_nothing r a z e f = omega (arith, ints)
+
+-- the quotient of a multiple is exact
+pub quotient_of_times : (n : ℕ) → 0 < n → (k : ℤ) → int_div_euclid (pos n *ℤ k) (pos n) ≡ k
+quotient_of_times n h k =
+    let z = pos n *ℤ k in
+    cancel_number (pos n) _ k (above n h) (sum_with_nothing (int_rem_euclid z (pos n)) (pos n *ℤ int_div_euclid z (pos n)) z (quotient_is n h z) (rem_of_times n h k))
 
 -- ---- columns modulo n
 
@@ -98,6 +105,10 @@ quotients n c = record { x = int_div_euclid c.x (pos n); y = int_div_euclid c.y 
 pub quotients_are : (n : ℕ) → 0 < n → (c : Column) → c ≡ modulo n c +ᶜ times (pos n) (quotients n c)
 unfolding modulo ◌+ᶜ◌ times quotients
 quotients_are n h c = λ i. record { x = quotient_is n h c.x i; y = quotient_is n h c.y i; z = quotient_is n h c.z i }
+
+pub quotients_of_times : (n : ℕ) → 0 < n → (c : Column) → quotients n (times (pos n) c) ≡ c
+unfolding times quotients
+quotients_of_times n h c = λ i. record { x = quotient_of_times n h c.x i; y = quotient_of_times n h c.y i; z = quotient_of_times n h c.z i }
 
 -- a column is its remainder and a multiple of n
 pub whole_part : (n : ℕ) → 0 < n → (c : Column) → (k : Column) × (c ≡ modulo n c +ᶜ times (pos n) k)

@@ -1,12 +1,14 @@
 -- Common divisors of the entries of a column, and what is left when it is divided by them.
-use Rattle.std.proofs.Common.{◌≡◌, ◌≢◌, ◌⊎◌, inl, inr, ⊎_elim, ◌∷◌, [], ℕ, zero, suc, ◌+◌, ◌*◌, ◌/◌, ◌^◌, ◌<◌, ◌≤◌, ℤ, pos, negsuc, ◌+ℤ◌, ◌-ℤ◌, ◌*ℤ◌, ◌<ℤ◌, neg_ℤ, unsigned_abs, int_div, int_rem, FitsSigned, w32, to_z, of_z, ap, ap₂, sym, subst, ◌∙◌, refl, arith}
+use Rattle.std.proofs.Common.{◌≡◌, ◌≢◌, ◌⊎◌, inl, inr, ⊎_elim, ◌∷◌, [], ℕ, zero, suc, ◌*◌, ◌/◌, ◌^◌, ◌<◌, ◌≤◌, ℤ, pos, negsuc, ◌-ℤ◌, ◌*ℤ◌, ◌<ℤ◌, neg_ℤ, unsigned_abs, int_div, FitsSigned, w32, to_z, of_z, ap, ap₂, sym, subst, ◌∙◌, refl, arith}
 use Rattle.std.specs.Int.{IsGcd, ◌∣◌}
-use Rattle.std.proofs.lemmas.Int.{ints, unsigned_abs-mul, quot-rem, rem_below, fits_signed_from_abs, to_z-of_z}
+use Rattle.std.proofs.lemmas.Int.{ints, unsigned_abs-mul, fits_signed_from_abs, to_z-of_z}
 use Rattle.std.proofs.lemmas.Nat.Gcd.{le_of_dvd, dvd_trans}
 use Rattle.std.proofs.Math.Nat.{pos_of_dvd_of_pos, dvd-mul_right, mul-div_cancel', dvd_of_mul-dvd-mul_left, le-mul_of_pos_right}
 use Rattle.lattice_algebra.specs.Matrix.{Column, coordinates, times, origin}
 use Rattle.lattice_algebra.specs.Operator.{AreWithin}
-use Rattle.lattice_algebra.proofs.Ring.{known, var, con, ◌⊕◌, ◌⊖◌, ◌⊗◌, neg, ring, ring_from}
+use Rattle.lattice_algebra.proofs.Ring.{var, con, ◌⊗◌, neg, ring}
+use Rattle.lattice_algebra.proofs.Quotients.{rem_of_multiple, multiple_of_quotient}
+use lib.IntN.{*ℤ_comm}
 use Rattle.lattice_algebra.proofs.Columns.{times-times}
 use Rattle.lattice_algebra.proofs.MatrixRing.{column_at, sym_times, column_ring}
 use Rattle.group_closure.specs.declared.TheConstants.{MAX_OPERATORS}
@@ -20,41 +22,8 @@ some_size (pos zero) h = absurd (h refl)
 some_size (pos (suc n)) h = omega (arith, ints)
 some_size (negsuc n) h = omega (arith, ints)
 
-times_below : (n m : ℕ) → n * m < n → m ≡ 0
-times_below n zero l = refl
-times_below n (suc m) l = absurd (let e : n * suc m ≡ n * m + n = omega arith in omega arith)
-
--- what is below a number in size and a multiple of it is zero
-small_multiple : (d x c : ℤ) → c ≡ d *ℤ x → unsigned_abs c < unsigned_abs d → c ≡ pos 0
-small_multiple d x c e l =
-    let s : unsigned_abs c ≡ unsigned_abs d * unsigned_abs x = ap unsigned_abs e ∙ unsigned_abs-mul d x in
-    let z : unsigned_abs x ≡ 0 = times_below (unsigned_abs d) (unsigned_abs x) (omega (arith, s)) in
-    let none : unsigned_abs d * unsigned_abs x ≡ unsigned_abs d * 0 = ap (λ m. unsigned_abs d * m) z in
-    let zero_size : unsigned_abs c ≡ 0 = omega (arith, s, none) in
-    omega (arith, ints, zero_size)
-
-rest_is : (n d q p r : ℤ) → p *ℤ d +ℤ r ≡ n → n ≡ d *ℤ q → r ≡ d *ℤ (q -ℤ p)
-rest_is n d q p r h e =
-    let N = var 0 in
-    let D = var 1 in
-    let Q = var 2 in
-    let P = var 3 in
-    let R = var 4 in
-    ring_from (n ∷ d ∷ q ∷ p ∷ r ∷ []) R (D ⊗ (Q ⊖ P)) (known (con (pos 1)) (P ⊗ D ⊕ R) N ∷ known (con (pos 1)) N (D ⊗ Q) ∷ []) (h, (e, tt)) tt
-
-no_rest : (n d p r : ℤ) → p *ℤ d +ℤ r ≡ n → r ≡ pos 0 → n ≡ d *ℤ p
-no_rest n d p r h e =
-    let N = var 0 in
-    let D = var 1 in
-    let P = var 2 in
-    let R = var 3 in
-    ring_from (n ∷ d ∷ p ∷ r ∷ []) N (D ⊗ P) (known (con (negsuc 0)) (P ⊗ D ⊕ R) N ∷ known (con (pos 1)) R (con (pos 0)) ∷ []) (h, (e, tt)) tt
-
 pub exact_quotient : (n d q : ℤ) → d ≢ pos 0 → n ≡ d *ℤ q → n ≡ d *ℤ int_div n d
-exact_quotient n d q some e =
-    let r = int_rem n d in
-    let none : r ≡ pos 0 = small_multiple d (q -ℤ int_div n d) r (rest_is n d q (int_div n d) r (quot-rem n d) e) (rem_below n d (some_size d some)) in
-    no_rest n d (int_div n d) r (quot-rem n d) none
+exact_quotient n d q some e = multiple_of_quotient n d (rem_of_multiple n d q (some_size d some) (e ∙ *ℤ_comm d q)) ∙ *ℤ_comm (int_div n d) d
 
 -- it is no greater than what was divided
 pub quotient_fits : (n d q : ℤ) (b : ℕ) → d ≢ pos 0 → n ≡ d *ℤ q → unsigned_abs n ≤ b → b < 2 ^ 31 → FitsSigned w32 q
@@ -213,9 +182,6 @@ opposite_back z l = omega (arith, ints)
 
 pub positive_is : (z : ℤ) → pos 0 <ℤ z → z ≡ pos (unsigned_abs z)
 positive_is z l = omega (arith, ints)
-
-pub positive_size : (z : ℤ) → pos 0 <ℤ z → 0 < unsigned_abs z
-positive_size z l = omega (arith, ints)
 
 pub opposite_size : (z : ℤ) → unsigned_abs (neg_ℤ z) ≡ unsigned_abs z
 opposite_size z = omega (arith, ints)

@@ -1,6 +1,5 @@
 -- Which whole shifts of an operator fix a point: those by (n - r) / d, where r / d is the image of the point n / d.
-use Rattle.std.proofs.Common.{◌≡◌, ◌∷◌, [], ◌≤◌, ◌+◌, ◌*◌, ◌^◌, ◌↔◌, ℕ, ℤ, pos, ◌+ℤ◌, ◌-ℤ◌, ◌*ℤ◌, ◌<ℤ◌, ◌≤ℤ◌, unsigned_abs, List, Some, slice_get, Contains, w64, ap, sym, subst, refl, ◌∙◌, arith, FitsSigned, mul-le-mul, le_refl, le_trans}
-use Rattle.std.proofs.lemmas.Int.{ints}
+use Rattle.std.proofs.Common.{◌≡◌, ◌∷◌, [], ◌≤◌, ◌+◌, ◌*◌, ◌↔◌, ℕ, ℤ, pos, ◌+ℤ◌, ◌-ℤ◌, ◌*ℤ◌, unsigned_abs, List, Some, slice_get, Contains, w64, ap, sym, subst, ◌∙◌, arith, FitsSigned, le_trans}
 use Rattle.std.proofs.lemmas.List.Elements.{All-contains}
 use mir.Syntax.{w128}
 use Rattle.lattice_algebra.specs.Matrix.{Column, ◌+ᶜ◌, times}
@@ -13,7 +12,7 @@ use Rattle.lattice_algebra.proofs.Maps.{shifted, operator_of-shifted, shift_of}
 use Rattle.lattice_algebra.proofs.Numbers.{abs_sub}
 use Rattle.lattice_algebra.proofs.Columns.{cancel_column}
 use Rattle.lattice_algebra.proofs.Points.{positive_times, image-shifted}
-use Rattle.exact_ops.specs.declared.TheConstants.{UNIT, MAX_COORDINATE, MAX_DENOMINATOR}
+use Rattle.exact_ops.specs.declared.TheConstants.{UNIT, MAX_COORDINATE}
 use Rattle.exact_ops.specs.Narrow.{IsNarrow}
 use Rattle.exact_ops.specs.Points.{IsPointInRange}
 use Rattle.exact_ops.proofs.Narrow.{some_parts}

@@ -1,7 +1,6 @@
 -- A point of an image can be moved along it, by whole cells, to where each coordinate is bounded; an element that fixes the moved point has its shift in a box.
 use Rattle.std.proofs.Common.{◌≡◌, ◌++◌, ◌∷◌, [], ℕ, ◌+◌, ◌*◌, ◌<◌, ◌≤◌, ℤ, pos, ◌+ℤ◌, ◌-ℤ◌, ◌*ℤ◌, ◌<ℤ◌, unsigned_abs, Contains, ap, ap₂, sym, ◌∙◌, refl, subst, arith, mul-le-mul, le_refl}
 use Rattle.std.proofs.lemmas.Int.{ints, unsigned_abs-mul}
-use lib.IntN.{*ℤ_comm}
 use native.Mathlib.Nat.{le_of_mul-le-mul_left, lt_of_mul-lt-mul_left, mul-lt-mul_of_pos_left}
 use Rattle.lattice_algebra.specs.Matrix.{Matrix, Column, entries, coordinates, ◌·◌, ◌·ᶜ◌, ◌+ᶜ◌, neg_column, times, scaled, identity, origin}
 use Rattle.lattice_algebra.specs.Operator.{modulo, IsPart, AreParts, identity_operator}
@@ -10,9 +9,9 @@ use Rattle.lattice_algebra.proofs.Ring.{var, ◌⊕◌, ◌⊖◌, ◌⊗◌, ri
 use Rattle.lattice_algebra.proofs.MatrixRing.{matrix_at, column_at, ◌·ˢ◌, ◌·ˢᶜ◌, ◌+ˢᶜ◌, sym_times, sym_neg, sym_scaled, sym_identity, sym_origin, column_ring, matrix_ring}
 use Rattle.lattice_algebra.proofs.Remainders.{modulo_same, modulo_part, modulo_parts, whole_part}
 use Rattle.lattice_algebra.proofs.Maps.{operator_path}
-use Rattle.lattice_algebra.proofs.Numbers.{above, positive_product, abs_add, abs_sub, rounded}
+use Rattle.lattice_algebra.proofs.Numbers.{above, positive_product, abs_add, abs_sub}
 use Rattle.space_groups.proofs.RowSizes.{row_size}
-use Rattle.lattice_algebra.proofs.Columns.{cancel_matrix}
+use Rattle.lattice_algebra.proofs.Columns.{cancel_matrix, swap_columns}
 use Rattle.space_groups.specs.Space.{IsElement, ScaledPoint, moved}
 use Rattle.space_groups.specs.Averages.{Block, block_times, block_scaled, IsInImage}
 use Rattle.space_groups.specs.Regions.{Sizes, IsWhole, IsRowWithin, IsReach, IsNear, IsInBox, shift_by}
@@ -37,20 +36,16 @@ shift_in L k = subst (Contains L.members) (sym (shift_operator L.unit L.some k))
 
 -- ---- the moved point
 
+size_of_part : (b : ℕ) (x : ℤ) → IsPart b x → unsigned_abs x ≤ b
+size_of_part b x p = omega (arith, ints)
+
 -- each number of a column divided by b: whole parts and rests
 parts : (b : ℕ) → 0 < b → (p : Column) → (a r : Column) × (p ≡ times (pos b) a +ᶜ r) × (unsigned_abs r.x ≤ b) × (unsigned_abs r.y ≤ b) × (unsigned_abs r.z ≤ b)
-unfolding ◌+ᶜ◌ times
 parts b h p =
-    let x = rounded p.x b h in
-    let y = rounded p.y b h in
-    let z = rounded p.z b h in (
-      record { x = x.0; y = y.0; z = z.0 },
-      record { x = pos x.1; y = pos y.1; z = pos z.1 },
-      λ i. record { x = (x.3 ∙ ap (λ k. k +ℤ pos x.1) (*ℤ_comm x.0 (pos b))) i; y = (y.3 ∙ ap (λ k. k +ℤ pos y.1) (*ℤ_comm y.0 (pos b))) i; z = (z.3 ∙ ap (λ k. k +ℤ pos z.1) (*ℤ_comm z.0 (pos b))) i },
-      omega (arith, x.2),
-      omega (arith, y.2),
-      omega (arith, z.2),
-    )
+    let k = whole_part b h p in
+    let r = modulo b p in
+    let m = modulo_parts b h p in
+    (k.0, r, k.1 ∙ swap_columns r (times (pos b) k.0), size_of_part b r.x m.x, size_of_part b r.y m.y, size_of_part b r.z m.z)
 
 scaled_right : (k : ℤ) (a b : Matrix) → a · scaled k b ≡ scaled k (a · b)
 unfolding ◌·◌ scaled

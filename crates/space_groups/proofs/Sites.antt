@@ -1,22 +1,20 @@
 -- For each point the list of the elements that fix it, and for each average the list of the elements that leave it as it is.
-use Rattle.std.proofs.Common.{◌≡◌, ◌++◌, ◌∷◌, [], ℕ, ◌<◌, ◌↔◌, List, length, map, filter, Bool, ◌&&◌, Decides, ℤ, pos, ◌+ℤ◌, ◌-ℤ◌, ◌*ℤ◌, ◌<ℤ◌, neg_ℤ, Contains, ap, sym, ◌∙◌, refl, subst, arith, count_by}
+use Rattle.std.proofs.Common.{◌≡◌, ◌++◌, ◌∷◌, ℕ, ◌<◌, ◌↔◌, List, length, map, filter, Bool, ◌&&◌, Decides, ℤ, pos, ◌<ℤ◌, Contains, ap, sym, ◌∙◌, refl, subst, count_by}
 use Rattle.std.specs.List.{IsDistinct}
-use Rattle.std.proofs.lemmas.Int.{ints}
 use Rattle.std.proofs.lemmas.List.Elements.{Contains-get_or, All-contains}
 use Rattle.std.proofs.lemmas.List.{length-map}
 use Rattle.std.proofs.lemmas.List.Sums.{length-filter}
 use Rattle.std.proofs.lemmas.Bool.Decides.{Decides-and}
-use lib.IntN.{*ℤ_comm}
 use Rattle.lattice_algebra.specs.Matrix.{Matrix, Column, entries, coordinates, ◌·ᶜ◌, ◌+ᶜ◌, neg_column, times, identity}
-use Rattle.lattice_algebra.specs.Operator.{Operator, IsPart}
+use Rattle.lattice_algebra.specs.Operator.{Operator}
 use Rattle.lattice_algebra.specs.Map.{Map, ◌∘◌, identity_map, operator_of}
-use Rattle.lattice_algebra.proofs.Ring.{var, con, ◌⊕◌, ◌⊖◌, ◌⊗◌, neg, ring}
+use Rattle.lattice_algebra.proofs.Ring.{var}
 use Rattle.lattice_algebra.proofs.MatrixRing.{matrix_at, column_at, ◌·ˢᶜ◌, ◌+ˢᶜ◌, sym_times, sym_neg, column_ring}
-use Rattle.lattice_algebra.proofs.Remainders.{one_place}
+use Rattle.lattice_algebra.proofs.Remainders.{quotients, quotients_of_times}
 use Rattle.lattice_algebra.proofs.Equality.{operator_eq, operator_eq-is}
 use Rattle.lattice_algebra.proofs.Maps.{map_path, map_eq, map_eq-is}
 use Rattle.lattice_algebra.proofs.Operators.{operators}
-use Rattle.lattice_algebra.proofs.Numbers.{above, cancel_number, rounded}
+use Rattle.lattice_algebra.proofs.Numbers.{above}
 use Rattle.finite_groups.specs.Words.{IsClosedList}
 use Rattle.finite_groups.proofs.Members as lists
 use Rattle.finite_groups.proofs.Table as table
@@ -29,37 +27,11 @@ use Rattle.space_groups.proofs.Means as means
 use Rattle.space_groups.proofs.Means.{Averaged, Keeps, kept_fixed}
 use Rattle.space_groups.proofs.Carried.{IsOwn}
 
--- ---- exact division
-
-pub quotient : (d : ℕ) → 0 < d → ℤ → ℤ
-quotient d h z = (rounded z d h).0
-
-quotient_is : (d : ℕ) (h : 0 < d) (z s : ℤ) → pos d *ℤ s ≡ z → quotient d h z ≡ s
-unfolding quotient
-quotient_is d h z s e =
-    let r = rounded z d h in
-    let f : pos r.1 ≡ pos 0 +ℤ pos d *ℤ (s +ℤ neg_ℤ r.0) = rest (pos d) s z r.0 (pos r.1) e r.3 in
-    let part : IsPart d (pos r.1) = omega (arith, ints, r.2) in
-    let none : IsPart d (pos 0) = omega (arith, ints) in
-    let zero : pos r.1 ≡ pos 0 = one_place d (pos r.1) (pos 0) (s +ℤ neg_ℤ r.0) f part none in
-    cancel_number (pos d) r.0 s (above d h) (*ℤ_comm (pos d) r.0 ∙ same (r.0 *ℤ pos d) (pos r.1) z r.3 zero ∙ sym e)
-  where
-    rest : (d s z a r : ℤ) → d *ℤ s ≡ z → z ≡ a *ℤ d +ℤ r → r ≡ pos 0 +ℤ d *ℤ (s +ℤ neg_ℤ a)
-    rest d s z a r e f =
-        let D = var 0 in
-        let A = var 1 in
-        let R = var 2 in
-        let S = var 3 in
-        ring (d ∷ a ∷ r ∷ s ∷ []) R ((A ⊗ D ⊕ R) ⊖ A ⊗ D) tt ∙ ap (λ v. v -ℤ a *ℤ d) (sym f ∙ sym e) ∙ ring (d ∷ a ∷ r ∷ s ∷ []) (D ⊗ S ⊖ A ⊗ D) (con (pos 0) ⊕ D ⊗ (S ⊕ neg A)) tt
-
-    same : (a r z : ℤ) → z ≡ a +ℤ r → r ≡ pos 0 → a ≡ z
-    same a r z e f = omega (arith, ints)
+-- ---- the shift
 
 -- the column that d times makes p - W p
 abbrev pub shift_for : Matrix → ScaledPoint → Column
-shift_for w y =
-    let c = y.n +ᶜ neg_column (w ·ᶜ y.n) in
-    record { x = quotient y.d y.some c.x; y = quotient y.d y.some c.y; z = quotient y.d y.some c.z }
+shift_for w y = quotients y.d (y.n +ᶜ neg_column (w ·ᶜ y.n))
 
 shift_equation : (w : Matrix) (p s : Column) (d : ℤ) → w ·ᶜ p +ᶜ times d s ≡ p → times d s ≡ p +ᶜ neg_column (w ·ᶜ p)
 unfolding ◌·ᶜ◌ ◌+ᶜ◌ times neg_column
@@ -71,13 +43,7 @@ shift_equation w p s d e =
 
 pub shift_once : (e : Map) (y : ScaledPoint) → moved e y ≡ y → shift_for e.w y ≡ e.s
 unfolding moved times
-shift_once e y h =
-    let f = shift_equation e.w y.n e.s (pos y.d) (ap (λ (v : ScaledPoint). v.n) h) in
-    λ i. record {
-      x = quotient_is y.d y.some _ e.s.x (ap (λ (c : Column). c.x) f) i;
-      y = quotient_is y.d y.some _ e.s.y (ap (λ (c : Column). c.y) f) i;
-      z = quotient_is y.d y.some _ e.s.z (ap (λ (c : Column). c.z) f) i;
-    }
+shift_once e y h = ap (quotients y.d) (sym (shift_equation e.w y.n e.s (pos y.d) (ap (λ (v : ScaledPoint). v.n) h))) ∙ quotients_of_times y.d y.some e.s
 
 -- ---- tests
 

@@ -1,8 +1,8 @@
-use Rattle.std.proofs.Common.{◌≡◌, ◌*◌, ◌-◌, ◌^◌, ap, sym, subst, ◌∙◌, List, ℕ, ℤ, [], ◌∷◌}
+use Rattle.std.proofs.Common.{◌≡◌, ◌-◌, ◌^◌, ap, sym, subst, ◌∙◌, List, ℕ, ℤ, [], ◌∷◌}
 use mir.Syntax.{w128}
 use Rattle.lattice_algebra.proofs.Ring.{Expr, var, ◌⊕◌, ◌⊗◌, value}
 use Rattle.lattice_algebra.proofs.Machine.{IsWithin, fits, computed, widened}
-use Rattle.exact_ops.specs.declared.TheConstants.{UNIT, MAX_COORDINATE, MAX_DENOMINATOR}
+use Rattle.exact_ops.specs.declared.TheConstants.{UNIT, MAX_DENOMINATOR}
 use Rattle.exact_ops.proofs.Bounds.{numerator_bound}
 use Rattle.exact_ops.proofs.image.image_coordinate.Goals as goal
 

@@ -1,8 +1,8 @@
-use Rattle.std.proofs.Common.{◌≡◌, ◌*◌, ◌^◌, ap, sym, subst, ◌∙◌, List, ℕ, ℤ, [], ◌∷◌, w64}
+use Rattle.std.proofs.Common.{◌≡◌, ap, sym, subst, ◌∙◌, List, ℕ, ℤ, [], ◌∷◌, w64}
 use mir.Syntax.{w128}
 use Rattle.lattice_algebra.proofs.Ring.{Expr, var, ◌⊕◌, ◌⊗◌, value}
 use Rattle.lattice_algebra.proofs.Machine.{IsWithin, computed, kept}
-use Rattle.exact_ops.specs.declared.TheConstants.{UNIT, MAX_COORDINATE, MAX_DENOMINATOR, MAX_SHIFT}
+use Rattle.exact_ops.specs.declared.TheConstants.{MAX_SHIFT}
 use Rattle.exact_ops.proofs.Bounds.{denominator_bound, image_bound}
 use Rattle.exact_ops.proofs.moves.shifted.Goals as goal
 

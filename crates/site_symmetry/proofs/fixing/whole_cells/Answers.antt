@@ -4,6 +4,7 @@ use Rattle.std.proofs.lemmas.Int.{ints, quot_fits, quot_is, rem_is}
 use mir.Syntax.{w128}
 use Rattle.lattice_algebra.proofs.Machine.{back, kept}
 use Rattle.exact_ops.specs.declared.TheConstants.{MAX_COORDINATE}
+use Rattle.lattice_algebra.proofs.Numbers.{positive_size}
 use Rattle.lattice_algebra.proofs.Quotients.{rem_of_multiple, multiple_of_quotient, quotient_within}
 use Rattle.site_symmetry.proofs.fixing.whole_cells.Goals as goal
 
@@ -21,7 +22,7 @@ is_whole : (c : goal.Else-n-d-ne0) → whole c
 is_whole c = multiple_of_quotient c.args.n c.args.d (none_of_bits c.args.n c.args.d c.ranges.n c.ranges.d c.if-n-d-ne0.false)
 
 small : (c : goal.Else-n-d-ne0) → unsigned_abs (int_div c.args.n c.args.d) ≤ 8 * MAX_COORDINATE
-small c = quotient_within c.args.n c.args.d (int_div c.args.n c.args.d) (8 * MAX_COORDINATE) c.requires.positive (is_whole c) c.requires.near
+small c = quotient_within c.args.n c.args.d (int_div c.args.n c.args.d) (8 * MAX_COORDINATE) (positive_size c.args.d c.requires.positive) (is_whole c) c.requires.near
 
 computed_quotient : (c : goal.Else-n-d-ne0) → back w128 (int_div (back w128 c.args.n) (back w128 c.args.d)) ≡ int_div c.args.n c.args.d
 computed_quotient c = quot_is w128 c.args.n c.args.d c.ranges.n c.ranges.d (quot_fits w128 c.args.n c.args.d c.ranges.n c.requires.positive)
@@ -29,7 +30,7 @@ computed_quotient c = quot_is w128 c.args.n c.args.d c.ranges.n c.ranges.d (quot
 pub returns-then-n-d-ne0-clause-some : goal.returns-then-n-d-ne0-clause-some
 returns-then-n-d-ne0-clause-some c = (
   (λ t. absurd (false≢true t)),
-  (λ k. absurd (c.if-n-d-ne0.true (bits_of_none c.args.n c.args.d c.ranges.n c.ranges.d (rem_of_multiple c.args.n c.args.d k.0 c.requires.positive k.1)))),
+  (λ k. absurd (c.if-n-d-ne0.true (bits_of_none c.args.n c.args.d c.ranges.n c.ranges.d (rem_of_multiple c.args.n c.args.d k.0 (positive_size c.args.d c.requires.positive) k.1)))),
 )
 
 pub overflow_cast-result : goal.overflow_cast-result

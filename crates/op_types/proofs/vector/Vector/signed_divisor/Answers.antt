@@ -3,7 +3,8 @@ use Rattle.std.proofs.lemmas.Bool.{false≢true}
 use Rattle.std.specs.Int.{◌∣◌}
 use Rattle.lattice_algebra.specs.Matrix.{times}
 use Rattle.op_types.specs.Vector.{column_in, Divides}
-use Rattle.op_types.proofs.Divisors.{same_back, opposite_back, positive_is, positive_size, opposite_size, opposite_divides, directed_part, directed_opposite}
+use Rattle.lattice_algebra.proofs.Numbers.{positive_size}
+use Rattle.op_types.proofs.Divisors.{same_back, opposite_back, positive_is, opposite_size, opposite_divides, directed_part, directed_opposite}
 use Rattle.op_types.proofs.vector.Vector.signed_divisor.Goals as goal
 
 pub returns-then-is_directed-clause-greatest : goal.returns-then-is_directed-clause-greatest
