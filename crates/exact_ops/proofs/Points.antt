@@ -5,6 +5,7 @@ use mir.Syntax.{w128}
 use Rattle.lattice_algebra.specs.Point.{Point}
 use Rattle.lattice_algebra.proofs.Ring.{var, con, ◌⊗◌, ring}
 use Rattle.lattice_algebra.proofs.Machine.{back, read, value-size}
+use Rattle.lattice_algebra.proofs.Numbers.{above}
 use Rattle.lattice_algebra.proofs.Remainders.{rem_of_times}
 use Rattle.exact_ops.specs.declared.TheConstants.{UNIT, MAX_COORDINATE, MAX_DENOMINATOR}
 use Rattle.exact_ops.specs.Points.{point_with, IsPointInRange, coordinate_at, IsCoordinateInRange, AreCoordinatesInRange, HasCoordinates}
@@ -25,10 +26,7 @@ units_is n a b c f g h k e = read w128 n (units a b c) k (e ∙ λ i. units (to_
 -- ---- the point with the coordinates x / u, y / v, z / w
 
 positive : (u v w : ℤ) → pos 1 ≤ℤ u → pos 1 ≤ℤ v → pos 1 ≤ℤ w → pos 0 <ℤ units u v w
-positive (pos (suc a)) (pos (suc b)) (pos (suc c)) p q r = positive_number (UNIT * (suc a * suc b * suc c)) (grind arith)
-  where
-    positive_number : (n : ℕ) → 0 < n → pos 0 <ℤ pos n
-    positive_number n h = omega (arith, ints)
+positive (pos (suc a)) (pos (suc b)) (pos (suc c)) p q r = above (UNIT * (suc a * suc b * suc c)) (grind arith)
 positive (pos zero) v w p q r = absurd (omega (arith, ints))
 positive (negsuc a) v w p q r = absurd (omega (arith, ints))
 positive (pos (suc a)) (pos zero) w p q r = absurd (omega (arith, ints))

@@ -7,7 +7,7 @@ use mir.Val.{hbits}
 use mir.Syntax.{w32}
 use lib.Dec.{ltb→lt}
 use Rattle.lattice_algebra.proofs.Ring.{Expr, var, con, ◌⊕◌, ◌⊖◌, ◌⊗◌, neg, value, look, both}
-use Rattle.lattice_algebra.proofs.Numbers.{abs_add}
+use Rattle.lattice_algebra.proofs.Numbers.{abs_add, abs_neg}
 
 abbrev pub bound_at : List ℕ → ℕ → ℕ
 bound_at [] n = 0
@@ -49,9 +49,6 @@ machine w r (x ⊕ y) = back w (machine w r x) +ℤ back w (machine w r y)
 machine w r (x ⊖ y) = back w (machine w r x) -ℤ back w (machine w r y)
 machine w r (x ⊗ y) = back w (machine w r x) *ℤ back w (machine w r y)
 machine w r (neg x) = neg_ℤ (back w (machine w r x))
-
-abs_neg : (a : ℤ) → unsigned_abs (neg_ℤ a) ≡ unsigned_abs a
-abs_neg a = omega (arith, ints)
 
 look-size : (b : List ℕ) (r : List ℤ) (v : ℕ) → IsWithin b r → unsigned_abs (look r v) ≤ bound_at b v
 look-size b [] v h = omega arith

@@ -83,13 +83,15 @@ unfolding ◌∘◌ undo
 
 -- ---- operators modulo the cell
 
-absorb_left-column : (u : ℤ) (a b k : Column) → a +ᶜ (b +ᶜ times u k) ≡ a +ᶜ b +ᶜ times u k
+-- and added with it
+add_shift : (u : ℤ) (a b k : Column) → a +ᶜ (b +ᶜ times u k) ≡ a +ᶜ b +ᶜ times u k
 unfolding ◌+ᶜ◌ times
-absorb_left-column u a b k = let A = column_at 1 in let B = column_at 4 in let K = sym_times (var 0) (column_at 7) in column_ring (u ∷ (coordinates a ++ (coordinates b ++ coordinates k))) (A +ˢᶜ (B +ˢᶜ K)) (A +ˢᶜ B +ˢᶜ K) tt
+add_shift u a b k = let A = column_at 1 in let B = column_at 4 in let K = sym_times (var 0) (column_at 7) in column_ring (u ∷ (coordinates a ++ (coordinates b ++ coordinates k))) (A +ˢᶜ (B +ˢᶜ K)) (A +ˢᶜ B +ˢᶜ K) tt
 
-absorb_right-column : (u : ℤ) (w : Matrix) (t s k : Column) → w ·ᶜ (s +ᶜ times u k) +ᶜ t ≡ w ·ᶜ s +ᶜ t +ᶜ times u (w ·ᶜ k)
+-- whole shifts of a column are turned with it
+pub turn_shift : (u : ℤ) (w : Matrix) (t s k : Column) → w ·ᶜ (s +ᶜ times u k) +ᶜ t ≡ w ·ᶜ s +ᶜ t +ᶜ times u (w ·ᶜ k)
 unfolding ◌·ᶜ◌ ◌+ᶜ◌ times
-absorb_right-column u w t s k =
+turn_shift u w t s k =
     let W = matrix_at 1 in
     let T = column_at 10 in
     let S = column_at 13 in
@@ -101,13 +103,13 @@ module _ (unit : ℕ) (some : 0 < unit) where
   unfolding operator_of ◌∘◌
   absorb_left x y =
       let k = modulo_is unit some x.s in
-      operator_path _ _ refl (modulo_same unit some _ _ k.0 (ap (λ c. x.w ·ᶜ y.s +ᶜ c) k.1 ∙ absorb_left-column (pos unit) (x.w ·ᶜ y.s) x.s k.0))
+      operator_path _ _ refl (modulo_same unit some _ _ k.0 (ap (λ c. x.w ·ᶜ y.s +ᶜ c) k.1 ∙ add_shift (pos unit) (x.w ·ᶜ y.s) x.s k.0))
 
   pub absorb_right : (x y : Map) → operator_of unit (x ∘ map_of (operator_of unit y)) ≡ operator_of unit (x ∘ y)
   unfolding operator_of ◌∘◌
   absorb_right x y =
       let k = modulo_is unit some y.s in
-      operator_path _ _ refl (modulo_same unit some _ _ (x.w ·ᶜ k.0) (ap (λ c. x.w ·ᶜ c +ᶜ x.s) k.1 ∙ absorb_right-column (pos unit) x.w x.s y.s k.0))
+      operator_path _ _ refl (modulo_same unit some _ _ (x.w ·ᶜ k.0) (ap (λ c. x.w ·ᶜ c +ᶜ x.s) k.1 ∙ turn_shift (pos unit) x.w x.s y.s k.0))
 
   pub product_is : (g f : Operator) → product unit g f ≡ operator_of unit (map_of g ∘ map_of f)
   unfolding product operator_of ◌∘◌
@@ -140,7 +142,7 @@ join_shifts u c j k =
     column_ring (u ∷ (coordinates c ++ (coordinates j ++ coordinates k))) (C +ˢᶜ sym_times U J +ˢᶜ sym_times U K) (C +ˢᶜ sym_times U (J +ˢᶜ K)) tt
 
 shift_first : (u : ℤ) (w : Matrix) (t s j k : Column) → w ·ᶜ (s +ᶜ times u k) +ᶜ (t +ᶜ times u j) ≡ w ·ᶜ s +ᶜ t +ᶜ times u (w ·ᶜ k +ᶜ j)
-shift_first u w t s j k = absorb_left-column u (w ·ᶜ (s +ᶜ times u k)) t j ∙ ap (λ c. c +ᶜ times u j) (absorb_right-column u w t s k) ∙ join_shifts u (w ·ᶜ s +ᶜ t) (w ·ᶜ k) j
+shift_first u w t s j k = add_shift u (w ·ᶜ (s +ᶜ times u k)) t j ∙ ap (λ c. c +ᶜ times u j) (turn_shift u w t s k) ∙ join_shifts u (w ·ᶜ s +ᶜ t) (w ·ᶜ k) j
 
 -- the map of an operator with whole shifts
 abbrev pub shifted : ℕ → Operator → Column → Map
@@ -159,11 +161,11 @@ module _ (unit : ℕ) (some : 0 < unit) where
   -- whole shifts of the first map are turned, and those of the next are added
   pub IsShift-first : (g : Map) (f : Operator) (j k : Column) → IsShift unit (g ∘ map_of f) j → IsShift unit (g ∘ shifted unit f k) (g.w ·ᶜ k +ᶜ j)
   unfolding ◌∘◌
-  IsShift-first g f j k p = subst (IsShift unit (g ∘ shifted unit f k)) (swap_columns j (g.w ·ᶜ k)) (IsShift-more (g ∘ map_of f) (g ∘ shifted unit f k) j (g.w ·ᶜ k) (absorb_right-column (pos unit) g.w g.s f.t k) p)
+  IsShift-first g f j k p = subst (IsShift unit (g ∘ shifted unit f k)) (swap_columns j (g.w ·ᶜ k)) (IsShift-more (g ∘ map_of f) (g ∘ shifted unit f k) j (g.w ·ᶜ k) (turn_shift (pos unit) g.w g.s f.t k) p)
 
   pub IsShift-next : (f : Map) (g : Operator) (j k : Column) → IsShift unit (map_of g ∘ f) j → IsShift unit (shifted unit g k ∘ f) (j +ᶜ k)
   unfolding ◌∘◌
-  IsShift-next f g j k p = IsShift-more (map_of g ∘ f) (shifted unit g k ∘ f) j k (absorb_left-column (pos unit) (g.w ·ᶜ f.s) g.t k) p
+  IsShift-next f g j k p = IsShift-more (map_of g ∘ f) (shifted unit g k ∘ f) j k (add_shift (pos unit) (g.w ·ᶜ f.s) g.t k) p
 
   -- the product of two operators with whole shifts
   pub product-shifted : (g f : Operator) (j k l : Column) → IsShift unit (shifted unit g j ∘ shifted unit f k) l → shifted unit (product unit g f) l ≡ shifted unit g j ∘ shifted unit f k

@@ -180,12 +180,6 @@ same_back z l = omega (arith, ints)
 pub opposite_back : (z : ℤ) → unsigned_abs z ≤ 4 * MAX_OPERATORS → to_z w32 (of_z w32 (pos 0 -ℤ to_z w32 (of_z w32 z))) ≡ neg_ℤ z
 opposite_back z l = omega (arith, ints)
 
-pub positive_is : (z : ℤ) → pos 0 <ℤ z → z ≡ pos (unsigned_abs z)
-positive_is z l = omega (arith, ints)
-
-pub opposite_size : (z : ℤ) → unsigned_abs (neg_ℤ z) ≡ unsigned_abs z
-opposite_size z = omega (arith, ints)
-
 -- an entry and a divisor that were passed to a function
 pub entry_divides : (x k b : ℤ) → unsigned_abs x ≤ 4 * MAX_OPERATORS → unsigned_abs k ≤ 4 * MAX_OPERATORS → x ≡ k *ℤ b → (q : ℤ) × (to_z w32 (of_z w32 x) ≡ to_z w32 (of_z w32 k) *ℤ q)
 entry_divides x k b l m e = (b, same_back x l ∙ e ∙ ap (λ v. v *ℤ b) (sym (same_back k m)))

@@ -1,9 +1,10 @@
 -- The columns that a matrix of finite order fixes are those that the columns of the sum of its powers span.
 use Rattle.std.proofs.Common.{◌≡◌, ◌≢◌, ◌⊎◌, inl, inr, ⊎_elim, ◌++◌, ◌∷◌, [], ℕ, zero, suc, ◌<◌, ℤ, pos, negsuc, ◌*ℤ◌, ap, sym, subst, ◌∙◌, refl, arith}
 use Rattle.std.proofs.lemmas.Int.{ints}
+use lib.IntN.{*ℤ_comm}
 use Rattle.lattice_algebra.specs.Matrix.{Matrix, Column, coordinates, entries, ◌·◌, ◌·ᶜ◌, times, origin, no_matrix}
 use Rattle.lattice_algebra.specs.Powers.{sum_of_powers, IsOrder}
-use Rattle.lattice_algebra.proofs.Ring.{known, var, con, ◌⊕◌, ◌⊖◌, ◌⊗◌, ring, ring_from}
+use Rattle.lattice_algebra.proofs.Ring.{known, var, con, ◌⊕◌, ◌⊖◌, ◌⊗◌, ring_from}
 use Rattle.lattice_algebra.proofs.Columns.{times-times}
 use Rattle.lattice_algebra.proofs.MatrixRing.{matrix_at, column_at, ◌·ˢᶜ◌, sym_times, sym_nothing, sym_origin, column_ring}
 use Rattle.lattice_algebra.proofs.Matrices.{·ᶜ_assoc}
@@ -86,12 +87,9 @@ pub multiple_of : (a c : Column) → a ≢ origin → AreParallel a c → IsMult
 unfolding times
 multiple_of a c some p =
     ⊎_elim (λ zx. ⊎_elim (λ zy. ⊎_elim (λ zz. absurd (some (λ i. record { x = zx i; y = zy i; z = zz i })))
-    (λ n. (a.z, c.z, n, λ i. record { x = (p.zx ∙ own a.x c.z) i; y = (sym p.yz ∙ own a.y c.z) i; z = own a.z c.z i })) (zero_or_other a.z))
-    (λ n. (a.y, c.y, n, λ i. record { x = (sym p.xy ∙ own a.x c.y) i; y = own a.y c.y i; z = (p.yz ∙ own a.z c.y) i })) (zero_or_other a.y))
-    (λ n. (a.x, c.x, n, λ i. record { x = own a.x c.x i; y = (p.xy ∙ own a.y c.x) i; z = (sym p.zx ∙ own a.z c.x) i })) (zero_or_other a.x)
-  where
-    own : (u v : ℤ) → u *ℤ v ≡ v *ℤ u
-    own u v = ring (u ∷ v ∷ []) (var 0 ⊗ var 1) (var 1 ⊗ var 0) tt
+    (λ n. (a.z, c.z, n, λ i. record { x = (p.zx ∙ *ℤ_comm a.x c.z) i; y = (sym p.yz ∙ *ℤ_comm a.y c.z) i; z = *ℤ_comm a.z c.z i })) (zero_or_other a.z))
+    (λ n. (a.y, c.y, n, λ i. record { x = (sym p.xy ∙ *ℤ_comm a.x c.y) i; y = *ℤ_comm a.y c.y i; z = (p.yz ∙ *ℤ_comm a.z c.y) i })) (zero_or_other a.y))
+    (λ n. (a.x, c.x, n, λ i. record { x = *ℤ_comm a.x c.x i; y = (p.xy ∙ *ℤ_comm a.y c.x) i; z = (sym p.zx ∙ *ℤ_comm a.z c.x) i })) (zero_or_other a.x)
 
 -- multiples of one column are on one line
 pub multiples_parallel : (a u v : Column) → IsMultiple a u → IsMultiple a v → AreParallel u v

@@ -19,7 +19,8 @@ use Rattle.op_types.specs.Cycle.{HasSmallPowers}
 use Rattle.op_types.specs.Vector.{AreParallel, IsImage, x_column_of, y_column_of, z_column_of}
 use Rattle.op_types.proofs.Members.{small_powers, small_opposite, proper_or_not}
 use Rattle.op_types.proofs.Lines.{x_image, y_image, z_image, each_image, parallel_to}
-use Rattle.op_types.proofs.Divisors.{gcd_divides, gcd_greatest, gcd_size, no_divisor_left, directed_part, directed_opposite, opposite_divides, opposite_size}
+use Rattle.op_types.proofs.Divisors.{gcd_divides, gcd_greatest, gcd_size, no_divisor_left, directed_part, directed_opposite, opposite_divides}
+use Rattle.lattice_algebra.proofs.Numbers.{abs_neg}
 use Rattle.op_types.proofs.FixedColumns.{zero_or_other, some_order, along_by, no_line_of_nothing, line_parallel, reduced_axis}
 
 -- ---- what can be decided
@@ -140,7 +141,7 @@ directed_axis p a l =
     (λ n. (
       other.0,
       reduced_axis p a other.0 (neg_ℤ (pos g)) l some_other other.1
-          (no_divisor_left (neg_ℤ (pos g)) a other.0 some_other other.1 (λ d h. subst (λ m. unsigned_abs d ∣ m) (sym (opposite_size (pos g))) (greatest d h)))
+          (no_divisor_left (neg_ℤ (pos g)) a other.0 some_other other.1 (λ d h. subst (λ m. unsigned_abs d ∣ m) (sym (abs_neg (pos g))) (greatest d h)))
           (directed_opposite g a other.0 size.0 other.1 l.some n),
     ))
     (directed_or_not a)

@@ -1,5 +1,5 @@
 -- The image of a point, moved into the cell.
-use Rattle.std.proofs.Common.{◌≡◌, ◌∷◌, ◌*◌, ◌^◌, ◌<◌, ◌≤◌, [], ℕ, List, ℤ, pos, negsuc, ◌*ℤ◌, ◌<ℤ◌, unsigned_abs, ap, ap₂, sym, ◌∙◌, subst, refl, arith, mul-le-mul, le_refl, le_trans}
+use Rattle.std.proofs.Common.{◌≡◌, ◌∷◌, ◌*◌, ◌<◌, ◌≤◌, [], ℕ, List, ℤ, pos, unsigned_abs, ap, ap₂, sym, ◌∙◌, subst, arith}
 use Rattle.std.proofs.lemmas.Int.{ints}
 use mir.Syntax.{w128}
 use Rattle.std.specs.Int.{int_rem_euclid}
@@ -8,11 +8,12 @@ use Rattle.lattice_algebra.specs.Operator.{Operator, IsOperator, IsPart, modulo}
 use Rattle.lattice_algebra.specs.Map.{map_of}
 use Rattle.lattice_algebra.specs.Point as rational
 use Rattle.lattice_algebra.specs.Point.{◌≈◌, image, HasCoordinatesWithin}
+use Rattle.lattice_algebra.proofs.Numbers.{positive_size, positive_is}
 use Rattle.lattice_algebra.proofs.Machine.{back, kept}
 use Rattle.lattice_algebra.proofs.Maps.{shifted, operator_of-shifted}
 use Rattle.lattice_algebra.proofs.Points.{≈_sym, image-shifted}
 use Rattle.lattice_algebra.proofs.Remainders.{rem_is, modulo_is, modulo_parts}
-use Rattle.exact_ops.specs.declared.TheConstants.{UNIT, MAX_COORDINATE, MAX_DENOMINATOR}
+use Rattle.exact_ops.specs.declared.TheConstants.{UNIT, MAX_COORDINATE}
 use Rattle.exact_ops.specs.Points.{point_with, IsPointInRange}
 use Rattle.exact_ops.proofs.Narrow.{some_parts}
 use Rattle.exact_ops.proofs.Bounds.{denominator_bound, denominator_within, kept_denominator, kept_image}
@@ -20,10 +21,6 @@ use Rattle.space_groups.specs.Space.{IsInCell}
 use Rattle.orbit_map.specs.Steps.{IsPlaced}
 
 -- ---- numbers that the machine keeps
-
-whole_of : (d : ℤ) → pos 0 <ℤ d → (n : ℕ) × (0 < n) × (d ≡ pos n)
-whole_of (pos n) p = (n, omega (arith, ints), refl)
-whole_of (negsuc n) p = absurd (omega (arith, ints))
 
 size_of_part : (n : ℕ) (a : ℤ) → n ≤ denominator_bound → IsPart n a → unsigned_abs a ≤ denominator_bound
 size_of_part n a l p = omega (arith, ints)
@@ -55,16 +52,17 @@ pub placed : (f : Operator) (x : rational.Point) (r : List ℤ) (a b c : ℤ) �
     → a ≡ int_rem_euclid (back w128 (column_of r).x) (back w128 x.d) → b ≡ int_rem_euclid (back w128 (column_of r).y) (back w128 x.d) → c ≡ int_rem_euclid (back w128 (column_of r).z) (back w128 x.d)
     → IsPlaced f x (point_with (back w128 a ∷ back w128 b ∷ back w128 c ∷ []) (back w128 x.d))
 placed f x r a b c o g e w i j k =
-    let z = whole_of x.d g.positive in
-    let n = z.0 in
+    let n = unsigned_abs x.d in
+    let some : 0 < n = positive_size x.d g.positive in
+    let whole : x.d ≡ pos n = positive_is x.d g.positive in
     let y : rational.Point = record { n = modulo n (column_of r); d = pos n } in
-    let is : point_with (back w128 a ∷ back w128 b ∷ back w128 c ∷ []) (back w128 x.d) ≡ y = reduced_point n x r a b c z.1 g z.2 w i j k in
-    let m = modulo_is n z.1 (column_of r) in
+    let is : point_with (back w128 a ∷ back w128 b ∷ back w128 c ∷ []) (back w128 x.d) ≡ y = reduced_point n x r a b c some g whole w i j k in
+    let m = modulo_is n some (column_of r) in
     let moved : image UNIT (shifted UNIT f m.0) x ≈ record { n = column_of r +ᶜ times x.d m.0; d = x.d } = ≈_sym (record { n = column_of r +ᶜ times x.d m.0; d = x.d }) (image UNIT (shifted UNIT f m.0) x) (image-shifted UNIT f m.0 (column_of r) x e) in
-    let there : record { n = column_of r +ᶜ times x.d m.0; d = x.d } ≡ y = λ v. record { n = (ap (λ q. column_of r +ᶜ times q m.0) z.2 ∙ sym m.1) v; d = z.2 v } in
+    let there : record { n = column_of r +ᶜ times x.d m.0; d = x.d } ≡ y = λ v. record { n = (ap (λ q. column_of r +ᶜ times q m.0) whole ∙ sym m.1) v; d = whole v } in
     record {
-      denominator = ap (λ (q : rational.Point). q.d) is ∙ sym z.2;
-      in_cell = subst IsInCell (sym is) (in_cell_modulo n z.1 (column_of r));
+      denominator = ap (λ (q : rational.Point). q.d) is ∙ sym whole;
+      in_cell = subst IsInCell (sym is) (in_cell_modulo n some (column_of r));
       by = shifted UNIT f m.0;
       operator = operator_of-shifted UNIT some_parts f m.0 o;
       is_image = subst (λ q. image UNIT (shifted UNIT f m.0) x ≈ q) (there ∙ sym is) moved;

@@ -1,6 +1,7 @@
 -- The order of the points of an orbit, and of the points that are stored.
-use Rattle.std.proofs.Common.{⊎_elim, ◌↔◌, AllPairs, Contains, pos, Bool, true, false, ◌&&◌, ap₂, ◌≡◌, ◌∷◌, [], ◌⊎◌, inl, inr, List, length, ℤ, ◌<ℤ◌, ap, sym, ◌∙◌, subst, refl, arith, Ordering, Less, Equal, Greater}
+use Rattle.std.proofs.Common.{⊎_elim, ◌↔◌, AllPairs, Contains, pos, Bool, true, ◌&&◌, ap₂, ◌≡◌, ◌∷◌, [], ◌⊎◌, inl, inr, List, length, ℤ, ◌<ℤ◌, ap, sym, ◌∙◌, subst, refl, arith, Ordering, Less, Equal, Greater}
 use Rattle.std.proofs.lemmas.Int.{ints}
+use Rattle.std.proofs.Math.Bool.{and-eq-true_iff}
 use lib.Pointwise.{pointwise}
 use Rattle.std.specs.Cmp.{IsTotalOrder, IsEquivalence, signed_Decides}
 use Rattle.std.specs.Cmp.Rules.{signed_items}
@@ -36,14 +37,10 @@ tie_then Greater p = refl
 pub stored_ties : (p q : Point) → stored_eq p q ≡ eq_by_cmp stored_cmp p q
 stored_ties p q = ap (λ b. b && int_eq p.d q.d) (lists_ties int_cmp (λ x y. refl) p.n q.n) ∙ tie_then (slice_cmp int_cmp p.n q.n) (int_cmp p.d q.d)
 
-both_true : (a b : Bool) → (a && b) ≡ true → (a ≡ true) × (b ≡ true)
-both_true true b e = (refl, e)
-both_true false b e = cc
-
 -- and have one value
 pub stored_same : (p q : Point) → stored_eq p q ≡ true → point_in p ≡ point_in q
 stored_same p q e =
-    let b = both_true (pointwise int_eq p.n q.n) (int_eq p.d q.d) e in
+    let b = (and-eq-true_iff (pointwise int_eq p.n q.n) (int_eq p.d q.d)).0 e in
     ap₂ point_with ((signed_items p.n q.n).0 b.0) ((signed_Decides p.d q.d).0 b.1)
 
 below_from_less : (xs ys : List ℤ) → slice_cmp int_cmp xs ys ≡ Less → IsBelow xs ys

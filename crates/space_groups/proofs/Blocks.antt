@@ -4,9 +4,9 @@ use Rattle.std.proofs.lemmas.Int.{ints}
 use lib.IntN.{*ℤ_comm}
 use Rattle.lattice_algebra.specs.Matrix.{Column, entries, coordinates, ◌·◌, ◌·ᶜ◌, ◌+ᶜ◌, ◌+ᵐ◌, times, scaled, origin}
 use Rattle.lattice_algebra.specs.Map.{Map, ◌∘◌, identity_map}
-use Rattle.lattice_algebra.proofs.Ring.{var, con, ◌⊕◌, ◌⊗◌, ring}
 use Rattle.lattice_algebra.proofs.MatrixRing.{matrix_at, column_at, ◌·ˢ◌, ◌·ˢᶜ◌, ◌+ˢᶜ◌, ◌+ˢ◌, sym_times, sym_scaled, sym_nothing, sym_origin, sym_identity, column_ring, matrix_ring}
-use Rattle.lattice_algebra.proofs.Numbers.{cancel_number, one_more, one_times}
+use Rattle.lattice_algebra.proofs.Ring.{var, con, ◌⊕◌, ◌⊗◌, ring, one_times}
+use Rattle.lattice_algebra.proofs.Numbers.{cancel_number, one_more}
 use Rattle.lattice_algebra.proofs.Columns.{cancel_column, cancel_matrix, drop_left}
 use Rattle.finite_groups.specs.Groups.{Addition, Ring, Vectors}
 use Rattle.finite_groups.proofs.Averages.{copies}

@@ -4,7 +4,8 @@ use Rattle.std.proofs.lemmas.Int.{ints}
 use lib.IntN.{*ℤ_comm}
 use Rattle.lattice_algebra.specs.Matrix.{Column, ◌·ᶜ◌, ◌+ᶜ◌, times}
 use Rattle.lattice_algebra.specs.Map.{Map}
-use Rattle.lattice_algebra.proofs.Numbers.{above, positive_product, cancel_number, one_more, one_times}
+use Rattle.lattice_algebra.proofs.Ring.{one_times}
+use Rattle.lattice_algebra.proofs.Numbers.{above, positive_product, cancel_number, one_more}
 use Rattle.finite_groups.specs.Groups.{Representation}
 use Rattle.finite_groups.specs.Words.{IsClosedList}
 use Rattle.finite_groups.proofs.Totals.{total}

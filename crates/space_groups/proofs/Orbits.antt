@@ -9,7 +9,7 @@ use Rattle.lattice_algebra.specs.Map.{Map, ◌∘◌, undo, operator_of, map_of}
 use Rattle.lattice_algebra.proofs.Ring.{var, ◌⊗◌}
 use Rattle.lattice_algebra.proofs.MatrixRing.{matrix_at, column_at, ◌·ˢᶜ◌, ◌+ˢᶜ◌, sym_times, sym_neg, column_ring}
 use Rattle.lattice_algebra.proofs.Remainders.{modulo_is, modulo_same}
-use Rattle.lattice_algebra.proofs.Maps.{shifted, operator_of-shifted, map_eq, map_eq-is, operator_of-map, product_is}
+use Rattle.lattice_algebra.proofs.Maps.{shifted, turn_shift, operator_of-shifted, map_eq, map_eq-is, operator_of-map, product_is}
 use Rattle.lattice_algebra.proofs.Operators.{operators}
 use Rattle.lattice_algebra.proofs.Numbers.{positive_product}
 use Rattle.lattice_algebra.proofs.Columns.{difference}
@@ -48,24 +48,13 @@ pub cell_same : (unit : ℕ) → 0 < unit → (x y : ScaledPoint) (k : Column) �
 unfolding in_cell
 cell_same unit h x y k e d = scaled_path _ _ (ap (λ v. modulo (unit * v) x.n) d ∙ modulo_same (unit * y.d) (positive_product unit y.d h y.some) x.n y.n k e) d
 
-spread : (w : Matrix) (s p k : Column) (d u : ℤ) → w ·ᶜ (p +ᶜ times u k) +ᶜ times d s ≡ w ·ᶜ p +ᶜ times d s +ᶜ times u (w ·ᶜ k)
-unfolding ◌·ᶜ◌ ◌+ᶜ◌ times
-spread w s p k d u =
-    let D = var 0 in
-    let U = var 1 in
-    let W = matrix_at 2 in
-    let S = column_at 11 in
-    let P = column_at 14 in
-    let K = column_at 17 in
-    column_ring (d ∷ u ∷ (entries w ++ (coordinates s ++ (coordinates p ++ coordinates k)))) (W ·ˢᶜ (P +ˢᶜ sym_times U K) +ˢᶜ sym_times D S) (W ·ˢᶜ P +ˢᶜ sym_times D S +ˢᶜ sym_times U (W ·ˢᶜ K)) tt
-
 -- a map takes them to such points
 pub cell_moved : (unit : ℕ) → 0 < unit → (g : Map) (x y : ScaledPoint) → in_cell unit x ≡ in_cell unit y → in_cell unit (moved g x) ≡ in_cell unit (moved g y)
 unfolding moved
 cell_moved unit h g x y e =
     let a = cell_apart unit h x y e in
     cell_same unit h (moved g x) (moved g y) (g.w ·ᶜ a.0)
-    (ap₂ (λ (v : Column) (d : ℕ). g.w ·ᶜ v +ᶜ times (pos d) g.s) a.1 a.2 ∙ spread g.w g.s y.n a.0 (pos y.d) (pos (unit * y.d))) a.2
+    (ap₂ (λ (v : Column) (d : ℕ). g.w ·ᶜ v +ᶜ times (pos d) g.s) a.1 a.2 ∙ turn_shift (pos (unit * y.d)) g.w (times (pos y.d) g.s) y.n a.0) a.2
 
 whole_shift : (w : Matrix) (p s k : Column) (d u : ℤ) → w ·ᶜ p +ᶜ times d (s +ᶜ times u k) ≡ w ·ᶜ p +ᶜ times d s +ᶜ times (u *ℤ d) k
 unfolding ◌·ᶜ◌ ◌+ᶜ◌ times

@@ -3,6 +3,7 @@ use Rattle.std.proofs.Common.{◌≡◌, ◌↔◌, ◌∷◌, ◌++◌, [], ℕ
 use Rattle.std.proofs.lemmas.Bool.{false≢true}
 use Rattle.std.specs.Option.{option_map}
 use Rattle.exact_ops.specs.Operator.{Operator}
+use lib.IntN.{*ℤ_comm}
 use Rattle.lattice_algebra.specs.Matrix.{Matrix, Column, column_of, times}
 use Rattle.lattice_algebra.specs.Powers.{IsOrder}
 use Rattle.lattice_algebra.proofs.Ring.{var, ◌⊗◌, ring}
@@ -82,10 +83,7 @@ is_type_of members i f order proper n d axis is handed turns positive part some 
 -- ---- one line
 
 one_fraction : (n m d e : ℤ) → pos 0 <ℤ d → pos 0 <ℤ e → d *ℤ m ≡ e *ℤ n → frac_text n d ≡ frac_text m e
-one_fraction n m d e p q h = one_text n m d e p q (turn n e ∙ sym h ∙ turn d m)
-  where
-    turn : (x y : ℤ) → x *ℤ y ≡ y *ℤ x
-    turn x y = ring (x ∷ y ∷ []) (var 0 ⊗ var 1) (var 1 ⊗ var 0) tt
+one_fraction n m d e p q h = one_text n m d e p q (*ℤ_comm n e ∙ sym h ∙ *ℤ_comm d m)
 
 same_part : (n m : Column) (d e : ℤ) → pos 0 <ℤ d → pos 0 <ℤ e → times d m ≡ times e n → part_text n d ≡ part_text m e
 unfolding times

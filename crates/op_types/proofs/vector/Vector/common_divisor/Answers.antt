@@ -1,8 +1,9 @@
-use Rattle.std.proofs.Common.{◌≤◌, ◌<◌, ◌*◌, ◌<ℤ◌, ℕ, pos, unsigned_abs, sym, subst, FitsSigned, w32, arith}
+use Rattle.std.proofs.Common.{◌≤◌, ◌*◌, ◌<ℤ◌, ℕ, pos, unsigned_abs, sym, subst, FitsSigned, w32, arith}
 use Rattle.std.proofs.lemmas.Int.{ints}
 use Rattle.std.specs.Int.{◌∣◌}
 use Rattle.group_closure.specs.declared.TheConstants.{MAX_OPERATORS}
 use Rattle.op_types.specs.Vector.{column_in, Divides}
+use Rattle.lattice_algebra.proofs.Numbers.{above}
 use Rattle.op_types.proofs.Divisors.{IsDivisorOf, divisor_of, as_signed}
 use Rattle.op_types.proofs.vector.Vector.common_divisor.Goals as goal
 
@@ -13,14 +14,11 @@ divisor c =
 fits : (g : ℕ) → g ≤ 4 * MAX_OPERATORS → FitsSigned w32 (pos g)
 fits g l = omega (arith, ints)
 
-positive : (g : ℕ) → 0 < g → pos 0 <ℤ pos g
-positive g l = omega (arith, ints)
-
 pub overflow_cast-result : goal.overflow_cast-result
 overflow_cast-result c = fits _ (divisor c).small
 
 pub returns-clause-positive : goal.returns-clause-positive
-returns-clause-positive c = let g = divisor c in let p : pos 0 <ℤ pos c.greatest_common_divisor.result = positive _ g.positive in subst (λ z. pos 0 <ℤ z) (sym (as_signed _ g.small)) p
+returns-clause-positive c = let g = divisor c in let p : pos 0 <ℤ pos c.greatest_common_divisor.result = above _ g.positive in subst (λ z. pos 0 <ℤ z) (sym (as_signed _ g.small)) p
 
 pub returns-clause-small : goal.returns-clause-small
 returns-clause-small c = let g = divisor c in subst (λ z. unsigned_abs z ≤ 4 * MAX_OPERATORS) (sym (as_signed _ g.small)) g.small

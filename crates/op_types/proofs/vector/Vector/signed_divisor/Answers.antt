@@ -3,8 +3,8 @@ use Rattle.std.proofs.lemmas.Bool.{false≢true}
 use Rattle.std.specs.Int.{◌∣◌}
 use Rattle.lattice_algebra.specs.Matrix.{times}
 use Rattle.op_types.specs.Vector.{column_in, Divides}
-use Rattle.lattice_algebra.proofs.Numbers.{positive_size}
-use Rattle.op_types.proofs.Divisors.{same_back, opposite_back, positive_is, opposite_size, opposite_divides, directed_part, directed_opposite}
+use Rattle.lattice_algebra.proofs.Numbers.{positive_size, positive_is, abs_neg}
+use Rattle.op_types.proofs.Divisors.{same_back, opposite_back, opposite_divides, directed_part, directed_opposite}
 use Rattle.op_types.proofs.vector.Vector.signed_divisor.Goals as goal
 
 pub returns-then-is_directed-clause-greatest : goal.returns-then-is_directed-clause-greatest
@@ -26,7 +26,7 @@ returns-clause-divides c =
 pub returns-clause-greatest : goal.returns-clause-greatest
 returns-clause-greatest c =
     let g = c.common_divisor-2.ensures in
-    λ d h. subst (λ n. unsigned_abs d ∣ n) (sym (ap unsigned_abs (opposite_back _ g.small) ∙ opposite_size c.common_divisor-2.result)) (g.greatest d h)
+    λ d h. subst (λ n. unsigned_abs d ∣ n) (sym (ap unsigned_abs (opposite_back _ g.small) ∙ abs_neg c.common_divisor-2.result)) (g.greatest d h)
 
 pub returns-clause-directed : goal.returns-clause-directed
 returns-clause-directed c =
