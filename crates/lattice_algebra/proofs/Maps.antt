@@ -83,12 +83,12 @@ unfolding ◌∘◌ undo
 
 -- ---- operators modulo the cell
 
--- and added with it
+-- whole shifts of a summand
 add_shift : (u : ℤ) (a b k : Column) → a +ᶜ (b +ᶜ times u k) ≡ a +ᶜ b +ᶜ times u k
 unfolding ◌+ᶜ◌ times
 add_shift u a b k = let A = column_at 1 in let B = column_at 4 in let K = sym_times (var 0) (column_at 7) in column_ring (u ∷ (coordinates a ++ (coordinates b ++ coordinates k))) (A +ˢᶜ (B +ˢᶜ K)) (A +ˢᶜ B +ˢᶜ K) tt
 
--- whole shifts of a column are turned with it
+-- and of a column that is turned
 pub turn_shift : (u : ℤ) (w : Matrix) (t s k : Column) → w ·ᶜ (s +ᶜ times u k) +ᶜ t ≡ w ·ᶜ s +ᶜ t +ᶜ times u (w ·ᶜ k)
 unfolding ◌·ᶜ◌ ◌+ᶜ◌ times
 turn_shift u w t s k =
@@ -132,7 +132,7 @@ module _ (unit : ℕ) (some : 0 < unit) where
 
 -- ---- the whole shift of a map
 
-join_shifts : (u : ℤ) (c j k : Column) → c +ᶜ times u j +ᶜ times u k ≡ c +ᶜ times u (j +ᶜ k)
+pub join_shifts : (u : ℤ) (c j k : Column) → c +ᶜ times u j +ᶜ times u k ≡ c +ᶜ times u (j +ᶜ k)
 unfolding ◌+ᶜ◌ times
 join_shifts u c j k =
     let U = var 0 in

@@ -9,7 +9,7 @@ use Rattle.lattice_algebra.specs.Operator.{Operator}
 use Rattle.lattice_algebra.specs.Powers.{power, IsOrder}
 use Rattle.lattice_algebra.proofs.Ring.{con, neg, ring}
 use Rattle.lattice_algebra.proofs.MatrixRing.{matrix_at, sym_scaled, sym_det}
-use Rattle.lattice_algebra.proofs.Matrices.{identity-·, det-·, IsUnimodular-det}
+use Rattle.lattice_algebra.proofs.Matrices.{identity-·, det-·, IsUnimodular-det, det-identity}
 use Rattle.lattice_algebra.proofs.Powers.{power-zero, power-more, power-add, power-opposite}
 use Rattle.exact_ops.specs.Narrow.{IsNarrow}
 use Rattle.group_closure.specs.GroupList.{IsGroup}
@@ -39,10 +39,6 @@ order_divides w k n o e =
     none (suc r) l i = absurd (let le : k ≤ suc r = o.least (suc r) (omega arith) i in omega arith)
 
 -- ---- the opposite of an improper matrix
-
-det-identity : det identity ≡ pos 1
-unfolding det
-det-identity = refl
 
 det-opposite_identity : det (opposite identity) ≡ negsuc 0
 unfolding det scaled

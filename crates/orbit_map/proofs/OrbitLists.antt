@@ -28,11 +28,10 @@ use Rattle.exact_ops.proofs.Narrow.{some_parts}
 use Rattle.group_closure.specs.GroupList.{IsGroup}
 use Rattle.space_groups.specs.Space.{IsInCell, IsInOrbit, ScaledPoint, moved, point_of}
 use Rattle.space_groups.specs.Keys.{IsBelow}
-use Rattle.space_groups.proofs.Orbits.{in_cell, cell_operator, orbit, orbit_is}
-use Rattle.space_groups.proofs.OrbitLists.{stays_in_cell, orbit_points, orbit_list}
+use Rattle.space_groups.proofs.Orbits.{in_cell, cell_operator, orbit}
+use Rattle.space_groups.proofs.OrbitLists.{stays_in_cell, orbit_points, orbit_list, orbit_depth}
 use Rattle.space_groups.proofs.Points.{scaled_of, IsPoint-scaled, image_of}
 use Rattle.space_groups.proofs.Ordered.{not_below_itself, below_on}
-use Rattle.space_groups.proofs.Elements.{SpaceGroup}
 use Rattle.orbit_map.specs.OrderedOrbit.{IsOrderedOrbit, IsScaled}
 use Rattle.orbit_map.specs.Steps.{IsPlaced, stored_cmp}
 use Rattle.site_symmetry.proofs.Group.{space_of}
@@ -152,10 +151,6 @@ orbit_of_points members x n points sorted kept m px a l moved s k =
 
 -- ---- each point has one ordered orbit
 
-depth : (L : SpaceGroup) (y z : ScaledPoint) → Contains (orbit L y) z → y.d ≡ z.d
-unfolding in_cell moved
-depth L y z c = let r = (orbit_is L y z).0 c in ap (λ (v : ScaledPoint). v.d) r.2
-
 scaled_ordered_orbit : (members : List Operator) (y : ScaledPoint) → IsGroup members → (list : List rational.Point) × IsOrderedOrbit members (point_of UNIT y) list
 scaled_ordered_orbit members y m =
     let L = space_of members m in
@@ -165,7 +160,7 @@ scaled_ordered_orbit members y m =
     let s = in_order (orbit_points L y) in
     let over : All (λ (p : rational.Point). p.d ≡ x.d) s.0 = λ k d l.
     let r = lists.Contains-from_map (point_of UNIT) _ (orbit L y) ((s.2 _).1 (Contains-get_or s.0 k d l)) in
-    sym (ap (λ v. pos UNIT *ℤ pos v) (depth L y r.0 r.1) ∙ ap (λ (p : rational.Point). p.d) r.2) in (
+    sym (ap (λ v. pos UNIT *ℤ pos v) (sym (orbit_depth L y r.0 r.1)) ∙ ap (λ (p : rational.Point). p.d) r.2) in (
       s.0,
       ordered members x s.0 px (λ p c. o.in_orbit p ((s.2 p).1 c)) (λ p pp i. let h = o.has_each p pp i in (h.0, (s.2 h.0).0 h.1, h.2)) over
           (λ i j d l k. below_over_one (get_or s.0 i d) (get_or s.0 j d) (over i d (omega arith) ∙ sym (over j d k)) (s.1 i j d l k)),

@@ -6,7 +6,7 @@ use Rattle.lattice_algebra.specs.Map.{Map, ◌∘◌, undo, operator_of}
 use Rattle.lattice_algebra.proofs.Ring.{var, con, ◌⊗◌, ring}
 use Rattle.lattice_algebra.proofs.MatrixRing.{matrix_at, column_at, ◌·ˢ◌, ◌·ˢᶜ◌, ◌+ˢᶜ◌, sym_times, sym_neg, sym_scaled, sym_identity, sym_origin, column_ring, matrix_ring}
 use Rattle.lattice_algebra.proofs.Remainders.{modulo_is, modulo_same, modulo_parts, whole_part}
-use Rattle.lattice_algebra.proofs.Maps.{map_path, shifted}
+use Rattle.lattice_algebra.proofs.Maps.{map_path, shifted, join_shifts}
 use Rattle.lattice_algebra.proofs.Numbers.{above, positive_product}
 use Rattle.lattice_algebra.proofs.Columns.{cancel_column, difference}
 use Rattle.finite_groups.proofs.Keys as first
@@ -193,10 +193,6 @@ whole_form w r v j u q n =
     (sym_times (U ⊗ N) (sym_times Q J +ˢᶜ sym_neg ((W ·ˢ R ·ˢ V) ·ˢᶜ J)))
     tt
 
-regroup : (t k j : Column) (u : ℤ) → t +ᶜ times u (k +ᶜ j) ≡ t +ᶜ times u k +ᶜ times u j
-unfolding ◌+ᶜ◌ times
-regroup t k j u = let U = var 0 in column_ring (u ∷ (coordinates t ++ (coordinates k ++ coordinates j))) (column_at 1 +ˢᶜ sym_times U (column_at 4 +ˢᶜ column_at 7)) (column_at 1 +ˢᶜ sym_times U (column_at 4) +ˢᶜ sym_times U (column_at 7)) tt
-
 -- maps that differ by q times a whole shift give one key
 same_candidate : (unit q n : ℕ) → 0 < unit * n → (r : Matrix) (a : Block) → a.n ≡ pos n → IsWhole q r a → (w : Matrix) (s j : Column)
     → key_of unit n (carried (record { w = w; s = s +ᶜ times (pos unit) (times (pos q) j) }) a) ≡ key_of unit n (carried (record { w = w; s = s }) a)
@@ -221,7 +217,7 @@ module _ (L : SpaceGroup) where
       let k = modulo q c.0 in
       let j = d.0 in
       let is : g.s ≡ (modulo unit g.s +ᶜ times (pos unit) k) +ᶜ times (pos unit) (times (pos q) j) =
-      c.1 ∙ ap (λ v. modulo unit g.s +ᶜ times (pos unit) v) d.1 ∙ regroup (modulo unit g.s) k (times (pos q) j) (pos unit) in (
+      c.1 ∙ ap (λ v. modulo unit g.s +ᶜ times (pos unit) v) d.1 ∙ sym (join_shifts (pos unit) (modulo unit g.s) k (times (pos q) j)) in (
         operator_of unit g,
         k,
         m,

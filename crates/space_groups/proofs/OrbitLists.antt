@@ -110,7 +110,7 @@ module _ (L : SpaceGroup) where
       let s : in_cell unit w ≡ w = stays_in_cell unit some p w pp o.in_cell f in
       (w, (orbit_is L y w).1 (operator_of unit g, o.element, cell_operator unit some g y ∙ s), f)
 
-  orbit_depth : (y z : ScaledPoint) → Contains (orbit L y) z → z.d ≡ y.d
+  pub orbit_depth : (y z : ScaledPoint) → Contains (orbit L y) z → z.d ≡ y.d
   unfolding in_cell moved
   orbit_depth y z c = let r = (orbit_is L y z).0 c in ap (λ (v : ScaledPoint). v.d) (sym r.2)
 

@@ -6,7 +6,6 @@ use Rattle.exact_ops.specs.Operator.{Operator}
 use lib.IntN.{*ℤ_comm}
 use Rattle.lattice_algebra.specs.Matrix.{Matrix, Column, column_of, times}
 use Rattle.lattice_algebra.specs.Powers.{IsOrder}
-use Rattle.lattice_algebra.proofs.Ring.{var, ◌⊗◌, ring}
 use Rattle.group_closure.specs.GroupList.{IsGroup}
 use Rattle.op_types.specs.ProperPart.{IsProper, IsProperPart}
 use Rattle.op_types.specs.Intrinsic.{IsIntrinsicPart}
