@@ -36,18 +36,18 @@ part_of (negsuc n) p e = absurd (omega (arith, ints))
 part_within : (d part : ℤ) → IsUnitPart d part → unsigned_abs d ≤ denominator_bound → unsigned_abs part ≤ MAX_DENOMINATOR ^ 3
 part_within d part h l = omega (arith, h.size)
 
--- what the code divides
-abbrev pub quotient : ℤ → ℤ → ℤ
-quotient d u = quot_z (back w128 d) (back w128 u)
+-- what the code computes for it
+abbrev pub unit_part : ℤ → ℤ → ℤ
+unit_part d u = quot_z (back w128 d) (back w128 u)
 
-pub quotient_is : (p : Point) (u : ℤ) → IsPointInRange p → u ≡ pos UNIT → quotient p.d u ≡ quot_z p.d (pos UNIT)
-quotient_is p u r e = ap₂ quot_z (kept_denominator p r) (ap (back w128) e)
+pub unit_part_is : (p : Point) (u : ℤ) → IsPointInRange p → u ≡ pos UNIT → unit_part p.d u ≡ quot_z p.d (pos UNIT)
+unit_part_is p u r e = ap₂ quot_z (kept_denominator p r) (ap (back w128) e)
 
-pub IsUnitPart-quotient : (p : Point) (u : ℤ) → IsPointInRange p → u ≡ pos UNIT → IsUnitPart p.d (quotient p.d u)
-IsUnitPart-quotient p u r e = subst (IsUnitPart p.d) (sym (quotient_is p u r e)) (part_of p.d r.positive r.multiple)
+pub IsUnitPart-computed : (p : Point) (u : ℤ) → IsPointInRange p → u ≡ pos UNIT → IsUnitPart p.d (unit_part p.d u)
+IsUnitPart-computed p u r e = subst (IsUnitPart p.d) (sym (unit_part_is p u r e)) (part_of p.d r.positive r.multiple)
 
-pub quotient_size : (p : Point) (u : ℤ) → IsPointInRange p → u ≡ pos UNIT → unsigned_abs (quotient p.d u) ≤ MAX_DENOMINATOR ^ 3
-quotient_size p u r e = part_within p.d (quotient p.d u) (IsUnitPart-quotient p u r e) (denominator_within p r)
+pub unit_part_size : (p : Point) (u : ℤ) → IsPointInRange p → u ≡ pos UNIT → unsigned_abs (unit_part p.d u) ≤ MAX_DENOMINATOR ^ 3
+unit_part_size p u r e = part_within p.d (unit_part p.d u) (IsUnitPart-computed p u r e) (denominator_within p r)
 
 -- ---- numbers that were passed on
 
@@ -120,30 +120,30 @@ IsComputed a b c t p part r =
     r ≡ numerator (back w32 a) (back w32 b) (back w32 c) (back w32 t) (record { x = back w128 p.n.x; y = back w128 p.n.y; z = back w128 p.n.z }) (back w128 part)
 
 pub image_is : (f : Operator) (p : Point) (u x y z : ℤ) → IsNarrow f → IsPointInRange p → u ≡ pos UNIT → (FitsSigned w128 x) × (FitsSigned w128 y) × (FitsSigned w128 z)
-    → IsComputed f.w.xx f.w.xy f.w.xz f.t.x p (quotient p.d u) x → IsComputed f.w.yx f.w.yy f.w.yz f.t.y p (quotient p.d u) y → IsComputed f.w.zx f.w.zy f.w.zz f.t.z p (quotient p.d u) z
-    → point_with (back w128 x ∷ back w128 y ∷ back w128 z ∷ []) p.d ≡ record { n = numerators f p.n (quotient p.d u); d = p.d }
+    → IsComputed f.w.xx f.w.xy f.w.xz f.t.x p (unit_part p.d u) x → IsComputed f.w.yx f.w.yy f.w.yz f.t.y p (unit_part p.d u) y → IsComputed f.w.zx f.w.zy f.w.zz f.t.z p (unit_part p.d u) z
+    → point_with (back w128 x ∷ back w128 y ∷ back w128 z ∷ []) p.d ≡ record { n = numerators f p.n (unit_part p.d u); d = p.d }
 image_is f p u x y z n r e k g h i =
     let t = AreWithin-parts f.t n.is_operator.in_cell in
     let s = numerators_within p r in
-    let q = quotient_size p u r e in
+    let q = unit_part_size p u r e in
     λ j. record {
       n = record {
-        x = (to_z-of_z k.0 ∙ numerator_is f.w.xx f.w.xy f.w.xz f.t.x p.n (quotient p.d u) x n.within_two.x t.first s q g) j;
-        y = (to_z-of_z k.1 ∙ numerator_is f.w.yx f.w.yy f.w.yz f.t.y p.n (quotient p.d u) y n.within_two.y t.second s q h) j;
-        z = (to_z-of_z k.2 ∙ numerator_is f.w.zx f.w.zy f.w.zz f.t.z p.n (quotient p.d u) z n.within_two.z t.third s q i) j;
+        x = (to_z-of_z k.0 ∙ numerator_is f.w.xx f.w.xy f.w.xz f.t.x p.n (unit_part p.d u) x n.within_two.x t.first s q g) j;
+        y = (to_z-of_z k.1 ∙ numerator_is f.w.yx f.w.yy f.w.yz f.t.y p.n (unit_part p.d u) y n.within_two.y t.second s q h) j;
+        z = (to_z-of_z k.2 ∙ numerator_is f.w.zx f.w.zy f.w.zz f.t.z p.n (unit_part p.d u) z n.within_two.z t.third s q i) j;
       };
       d = p.d;
     }
 
-pub image_equals : (f g : Operator) (p : Point) (u : ℤ) (q : Point) → f ≡ g → IsPointInRange p → u ≡ pos UNIT → q ≡ record { n = numerators f p.n (quotient p.d u); d = p.d } → q ≈ image UNIT (map_of g) p
+pub image_equals : (f g : Operator) (p : Point) (u : ℤ) (q : Point) → f ≡ g → IsPointInRange p → u ≡ pos UNIT → q ≡ record { n = numerators f p.n (unit_part p.d u); d = p.d } → q ≈ image UNIT (map_of g) p
 image_equals f g p u q v r e h =
-    subst (λ k. q ≈ image UNIT (map_of k) p) v (subst (λ k. k ≈ image UNIT (map_of f) p) (sym h) (numerators_are f p.n p.d (quotient p.d u) (IsUnitPart-quotient p u r e)))
+    subst (λ k. q ≈ image UNIT (map_of k) p) v (subst (λ k. k ≈ image UNIT (map_of f) p) (sym h) (numerators_are f p.n p.d (unit_part p.d u) (IsUnitPart-computed p u r e)))
 
-pub image_within : (f : Operator) (p : Point) (u : ℤ) (q : Point) → IsNarrow f → IsPointInRange p → u ≡ pos UNIT → q ≡ record { n = numerators f p.n (quotient p.d u); d = p.d } → HasCoordinatesWithin (7 * MAX_COORDINATE) q
-image_within f p u q n r e g = subst (HasCoordinatesWithin (7 * MAX_COORDINATE)) (sym g) (numerators_within_image f p.n p.d (quotient p.d u) n.within_two (AreWithin-parts f.t n.is_operator.in_cell) r.within (IsUnitPart-quotient p u r e))
+pub image_within : (f : Operator) (p : Point) (u : ℤ) (q : Point) → IsNarrow f → IsPointInRange p → u ≡ pos UNIT → q ≡ record { n = numerators f p.n (unit_part p.d u); d = p.d } → HasCoordinatesWithin (7 * MAX_COORDINATE) q
+image_within f p u q n r e g = subst (HasCoordinatesWithin (7 * MAX_COORDINATE)) (sym g) (numerators_within_image f p.n p.d (unit_part p.d u) n.within_two (AreWithin-parts f.t n.is_operator.in_cell) r.within (IsUnitPart-computed p u r e))
 
-pub kept_part : (p : Point) (u : ℤ) → IsPointInRange p → u ≡ pos UNIT → unsigned_abs (back w128 (quotient p.d u)) ≤ MAX_DENOMINATOR ^ 3
-kept_part p u r e = let h = quotient_size p u r e in kept_size (MAX_DENOMINATOR ^ 3) _ (quotient p.d u) (kept w128 (MAX_DENOMINATOR ^ 3) (quotient p.d u) h tt) h
+pub kept_part : (p : Point) (u : ℤ) → IsPointInRange p → u ≡ pos UNIT → unsigned_abs (back w128 (unit_part p.d u)) ≤ MAX_DENOMINATOR ^ 3
+kept_part p u r e = let h = unit_part_size p u r e in kept_size (MAX_DENOMINATOR ^ 3) _ (unit_part p.d u) (kept w128 (MAX_DENOMINATOR ^ 3) (unit_part p.d u) h tt) h
 
 pub kept_translation : (t : ℤ) → unsigned_abs t ≤ UNIT - 1 → unsigned_abs (back w32 t) ≤ UNIT - 1
 kept_translation t h = kept_size (UNIT - 1) _ t (kept w32 (UNIT - 1) t h tt) h

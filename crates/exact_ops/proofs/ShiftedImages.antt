@@ -45,7 +45,7 @@ computed_point r s p x y z i h k f e g l = λ j. record {
 }
 
 -- q is written over the denominator of p, and is the image of p by f and the whole shifts s
-pub record IsImage (f : Operator) (s : List ℤ) (p q : Point) : Type 0 where
+pub record IsShiftedImage (f : Operator) (s : List ℤ) (p q : Point) : Type 0 where
   pub denominator : q.d ≡ p.d
   pub equal : q ≈ image UNIT (map_with f s) p
   pub range : HasCoordinatesWithin MAX_COORDINATE q ↔ HasCoordinatesWithin MAX_COORDINATE (image UNIT (map_with f s) p)
@@ -55,15 +55,15 @@ same_range f s p q h k e =
     let v = image UNIT (map_with f s) p in
     (HasCoordinatesWithin-same MAX_COORDINATE q v k e, HasCoordinatesWithin-same MAX_COORDINATE v q (IsPoint-image UNIT some_parts (map_with f s) p h) (≈_sym q v e))
 
-IsImage-shifted : (f : Operator) (r s : List ℤ) (p : Point) → IsPoint p → point_with r p.d ≈ image UNIT (map_of f) p → IsImage f s p (shifted_point r s p.d)
-IsImage-shifted f r s p h e =
+IsShiftedImage-computed : (f : Operator) (r s : List ℤ) (p : Point) → IsPoint p → point_with r p.d ≈ image UNIT (map_of f) p → IsShiftedImage f s p (shifted_point r s p.d)
+IsShiftedImage-computed f r s p h e =
     let g = image-shifted UNIT f (column_of s) (column_of r) p e in
     record { denominator = refl; equal = g; range = same_range f s p (shifted_point r s p.d) h h g }
 
 pub applied : (f : Operator) (r s : List ℤ) (p : Point) (x y z : ℤ) → IsPointInRange p → point_with r p.d ≈ image UNIT (map_of f) p → HasCoordinatesWithin (7 * MAX_COORDINATE) (point_with r p.d) → IsShiftInRange (column_of s)
     → (FitsSigned w128 x) × (FitsSigned w128 y) × (FitsSigned w128 z) → IsShifted (at r 0) (at s 0) p.d x → IsShifted (at r 1) (at s 1) p.d y → IsShifted (at r 2) (at s 2) p.d z
-    → IsImage f s p (point_with (back w128 x ∷ back w128 y ∷ back w128 z ∷ []) (back w128 p.d))
-applied f r s p x y z i e h k l m n o = subst (IsImage f s p) (sym (computed_point r s p x y z i h k l m n o)) (IsImage-shifted f r s p i.positive e)
+    → IsShiftedImage f s p (point_with (back w128 x ∷ back w128 y ∷ back w128 z ∷ []) (back w128 p.d))
+applied f r s p x y z i e h k l m n o = subst (IsShiftedImage f s p) (sym (computed_point r s p x y z i h k l m n o)) (IsShiftedImage-computed f r s p i.positive e)
 
 -- a point over the same denominator
 pub IsPointInRange-over : (p q : Point) → IsPointInRange p → q.d ≡ p.d → HasCoordinatesWithin MAX_COORDINATE q → IsPointInRange q

@@ -41,10 +41,10 @@ too_far : (n j : ℕ) (x y : ℤ) → x ≡ y +ℤ pos (n * suc j) → IsPart n 
 too_far n j x y e p q = let f : n * suc j ≡ n * j + n = omega arith in omega (arith, ints)
 
 -- numbers that differ by a multiple of n have one remainder
-pub one_place : (n : ℕ) (x y k : ℤ) → x ≡ y +ℤ pos n *ℤ k → IsPart n x → IsPart n y → x ≡ y
-one_place n x y (pos zero) e p q = e ∙ ap (λ v. y +ℤ v) (*ℤ-zero (pos n)) ∙ +ℤ_idr y
-one_place n x y (pos (suc j)) e p q = absurd (too_far n j x y e p q)
-one_place n x y (negsuc j) e p q = absurd (too_far n j y x (other n j x y e) q p)
+one_remainder : (n : ℕ) (x y k : ℤ) → x ≡ y +ℤ pos n *ℤ k → IsPart n x → IsPart n y → x ≡ y
+one_remainder n x y (pos zero) e p q = e ∙ ap (λ v. y +ℤ v) (*ℤ-zero (pos n)) ∙ +ℤ_idr y
+one_remainder n x y (pos (suc j)) e p q = absurd (too_far n j x y e p q)
+one_remainder n x y (negsuc j) e p q = absurd (too_far n j y x (other n j x y e) q p)
   where
     other : (n j : ℕ) (x y : ℤ) → x ≡ y +ℤ pos n *ℤ negsuc j → y ≡ x +ℤ pos (n * suc j)
     other n j x y e = let f : pos n *ℤ negsuc j ≡ neg_ℤ (pos (n * suc j)) = ring (pos n ∷ pos (suc j) ∷ []) (var 0 ⊗ neg (var 1)) (neg (var 0 ⊗ var 1)) tt in omega (arith, ints)
@@ -53,12 +53,12 @@ pub rem_same : (n : ℕ) → 0 < n → (x y k : ℤ) → x ≡ y +ℤ pos n *ℤ
 rem_same n h x y k e =
     let a = rem_is n h x in
     let b = rem_is n h y in
-    one_place n _ _ (a.0 +ℤ k +ℤ neg_ℤ b.0)
+    one_remainder n _ _ (a.0 +ℤ k +ℤ neg_ℤ b.0)
     (a.1 ∙ ap (λ v. v +ℤ pos n *ℤ a.0) e ∙ ring (y ∷ k ∷ pos n ∷ a.0 ∷ b.0 ∷ []) (var 0 ⊕ var 2 ⊗ var 1 ⊕ var 2 ⊗ var 3) (var 0 ⊕ var 2 ⊗ var 4 ⊕ var 2 ⊗ (var 3 ⊕ var 1 ⊕ neg (var 4))) tt
     ∙ ap (λ v. v +ℤ pos n *ℤ (a.0 +ℤ k +ℤ neg_ℤ b.0)) (sym b.1)) a.2 b.2
 
 pub rem_part : (n : ℕ) → 0 < n → (x : ℤ) → IsPart n x → int_rem_euclid x (pos n) ≡ x
-rem_part n h x p = let a = rem_is n h x in one_place n _ _ a.0 a.1 a.2 p
+rem_part n h x p = let a = rem_is n h x in one_remainder n _ _ a.0 a.1 a.2 p
 
 pub rem_of_times : (n : ℕ) → 0 < n → (k : ℤ) → int_rem_euclid (pos n *ℤ k) (pos n) ≡ pos 0
 rem_of_times n h k = rem_same n h (pos n *ℤ k) (pos 0) k (omega (arith, ints)) ∙ rem_part n h (pos 0) (omega (arith, ints))
