@@ -1,4 +1,4 @@
-ghost use Rattle.std.specs.Prelude.{◌≡◌, ◌≤◌, ◌↔◌, ◌*◌, ◌-◌, IsTrue, unsigned_abs, pos, ◌+ℤ◌, ◌-ℤ◌, ◌*ℤ◌};
+ghost use Rattle.std.specs.Prelude.{◌≡◌, ◌≤◌, ◌↔◌, ◌*◌, ◌-◌, ◌^◌, IsTrue, unsigned_abs, pos, ◌+ℤ◌, ◌-ℤ◌, ◌*ℤ◌};
 ghost use Rattle.std.specs.Int.{int_div_euclid, int_rem_euclid};
 ghost use Rattle.lattice_algebra.specs.Matrix.{sum_of_products, entries, matrix_of, column_of, coordinates, det, adjugate, scaled, neg_column, times, IsUnimodular, ◌·◌, ◌·ᶜ◌, ◌+ᶜ◌};
 ghost use Rattle.lattice_algebra.specs.Operator.{modulo, IsPart, AreParts, AreWithin, HasEntriesWithin};
@@ -81,18 +81,16 @@ impl Rotation {
     /// The cofactor formula.
     pub fn determinant(&self) -> i64
         requires { HasEntriesWithin 2304 (matrix_in self.now) }
-        ensures { result ≡ det (matrix_in self.now) }
+        ensures value { result ≡ det (matrix_in self.now) }
+        ensures size { unsigned_abs result ≤ 6 * 2304 ^ 3 }
     {
+        let x = minor(self.yy, self.zz, self.yz, self.zy);
+        let y = minor(self.yx, self.zz, self.yz, self.zx);
+        let z = minor(self.yx, self.zy, self.yy, self.zx);
         let a = i64::from(self.xx);
         let b = i64::from(self.xy);
         let c = i64::from(self.xz);
-        let d = i64::from(self.yx);
-        let e = i64::from(self.yy);
-        let f = i64::from(self.yz);
-        let g = i64::from(self.zx);
-        let h = i64::from(self.zy);
-        let i = i64::from(self.zz);
-        a * (e * i - f * h) - b * (d * i - f * g) + c * (d * h - e * g)
+        a * x - b * y + c * z
     }
 
     /// Whether it has a whole inverse.
@@ -263,6 +261,20 @@ fn carry(a: i32, b: i32, c: i32, x: i32, y: i32, z: i32, t: i32) -> i32
     ensures size { unsigned_abs result ≤ 7 }
 {
     (dot(a, b, c, x, y, z) + t).div_euclid(UNIT as i32)
+}
+
+/// A cofactor of a matrix of a Raw, but for its sign.
+fn minor(a: i32, b: i32, c: i32, d: i32) -> i64
+    requires left { (unsigned_abs a ≤ 2304) × (unsigned_abs b ≤ 2304) }
+    requires right { (unsigned_abs c ≤ 2304) × (unsigned_abs d ≤ 2304) }
+    ensures value { result ≡ a *ℤ b -ℤ c *ℤ d }
+    ensures size { unsigned_abs result ≤ 2 * 2304 ^ 2 }
+{
+    let a = i64::from(a);
+    let b = i64::from(b);
+    let c = i64::from(c);
+    let d = i64::from(d);
+    a * b - c * d
 }
 
 /// Sign times a cofactor.

@@ -1,4 +1,4 @@
-ghost use Rattle.std.specs.Prelude.{◌≡◌, ◌≤◌, ◌*◌, ◌^◌, ◌↔◌, ◌+ℤ◌, ◌*ℤ◌, unsigned_abs, IsTrue, IsSome, IfSome};
+ghost use Rattle.std.specs.Prelude.{◌≡◌, ◌≤◌, ◌+◌, ◌*◌, ◌^◌, ◌↔◌, ◌+ℤ◌, ◌*ℤ◌, unsigned_abs, IsTrue, IsSome, IfSome};
 ghost use Rattle.lattice_algebra.specs.Matrix.{Column, column_of, ◌·◌};
 ghost use Rattle.lattice_algebra.specs.Operator.{AreWithin, HasEntriesWithin};
 ghost use Rattle.lattice_algebra.specs.Map.{◌∘◌, IsShift};
@@ -70,7 +70,8 @@ fn shifted(n: i128, shift: i64, d: i128) -> i128
     requires numerator { unsigned_abs n ≤ 7 * COORDINATE_LIMIT * (UNIT * MAX_DENOMINATOR ^ 3) }
     requires shift { unsigned_abs shift ≤ SHIFT_LIMIT }
     requires denominator { unsigned_abs d ≤ UNIT * MAX_DENOMINATOR ^ 3 }
-    ensures { result ≡ n +ℤ shift *ℤ d }
+    ensures value { result ≡ n +ℤ shift *ℤ d }
+    ensures size { unsigned_abs result ≤ (7 * COORDINATE_LIMIT + SHIFT_LIMIT) * (UNIT * MAX_DENOMINATOR ^ 3) }
 {
     n + i128::from(shift) * d
 }
