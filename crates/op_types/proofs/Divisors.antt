@@ -153,41 +153,41 @@ opposite_divides k c h =
 
 -- ---- what the code computes
 
-size_of : (x : ℤ) (n : ℕ) → unsigned_abs x ≤ 4 * MAX_OPERATORS → n ≡ unsigned_abs (to_z w32 (of_z w32 x)) → n ≡ unsigned_abs x
+size_of : (x : ℤ) (n : ℕ) → unsigned_abs x ≤ 2 * MAX_OPERATORS → n ≡ unsigned_abs (to_z w32 (of_z w32 x)) → n ≡ unsigned_abs x
 size_of x n l e = omega (arith, ints)
 
-pub as_signed : (g : ℕ) → g ≤ 4 * MAX_OPERATORS → to_z w32 g ≡ pos g
+pub as_signed : (g : ℕ) → g ≤ 2 * MAX_OPERATORS → to_z w32 g ≡ pos g
 as_signed g l = omega (arith, ints)
 
 -- g is the greatest common divisor of the entries of c
 pub record IsDivisorOf (c : Column) (g : ℕ) : Type 0 where
   pub positive : 0 < g
-  pub small : g ≤ 4 * MAX_OPERATORS
+  pub small : g ≤ 2 * MAX_OPERATORS
   pub divides : Divides (pos g) c
   pub greatest : (d : ℤ) → Divides d c → unsigned_abs d ∣ g
 
-pub divisor_of : (c : Column) (y z x r g : ℕ) → c ≢ origin → AreWithin (4 * MAX_OPERATORS) c.x c.y c.z
+pub divisor_of : (c : Column) (y z x r g : ℕ) → c ≢ origin → AreWithin (2 * MAX_OPERATORS) c.x c.y c.z
     → y ≡ unsigned_abs (to_z w32 (of_z w32 c.y)) → z ≡ unsigned_abs (to_z w32 (of_z w32 c.z)) → x ≡ unsigned_abs (to_z w32 (of_z w32 c.x)) → IsGcd y z r → IsGcd x r g → IsDivisorOf c g
 divisor_of c y z x r g some w ey ez ex i o =
     let inner = subst (λ n. IsGcd n (unsigned_abs c.z) r) (size_of c.y y w.second ey) (subst (λ n. IsGcd y n r) (size_of c.z z w.third ez) i) in
     let outer = subst (λ n. IsGcd n r g) (size_of c.x x w.first ex) o in
-    let s = gcd_size c r g inner outer (4 * MAX_OPERATORS) some w in
+    let s = gcd_size c r g inner outer (2 * MAX_OPERATORS) some w in
     record { positive = s.0; small = s.1; divides = gcd_divides c r g inner outer; greatest = gcd_greatest c r g inner outer }
 
-pub same_back : (z : ℤ) → unsigned_abs z ≤ 4 * MAX_OPERATORS → to_z w32 (of_z w32 z) ≡ z
+pub same_back : (z : ℤ) → unsigned_abs z ≤ 2 * MAX_OPERATORS → to_z w32 (of_z w32 z) ≡ z
 same_back z l = omega (arith, ints)
 
-pub opposite_back : (z : ℤ) → unsigned_abs z ≤ 4 * MAX_OPERATORS → to_z w32 (of_z w32 (pos 0 -ℤ to_z w32 (of_z w32 z))) ≡ neg_ℤ z
+pub opposite_back : (z : ℤ) → unsigned_abs z ≤ 2 * MAX_OPERATORS → to_z w32 (of_z w32 (pos 0 -ℤ to_z w32 (of_z w32 z))) ≡ neg_ℤ z
 opposite_back z l = omega (arith, ints)
 
 -- an entry and a divisor that were passed to a function
-pub entry_divides : (x k b : ℤ) → unsigned_abs x ≤ 4 * MAX_OPERATORS → unsigned_abs k ≤ 4 * MAX_OPERATORS → x ≡ k *ℤ b → (q : ℤ) × (to_z w32 (of_z w32 x) ≡ to_z w32 (of_z w32 k) *ℤ q)
+pub entry_divides : (x k b : ℤ) → unsigned_abs x ≤ 2 * MAX_OPERATORS → unsigned_abs k ≤ 2 * MAX_OPERATORS → x ≡ k *ℤ b → (q : ℤ) × (to_z w32 (of_z w32 x) ≡ to_z w32 (of_z w32 k) *ℤ q)
 entry_divides x k b l m e = (b, same_back x l ∙ e ∙ ap (λ v. v *ℤ b) (sym (same_back k m)))
 
-entry_quotient : (x k q : ℤ) → unsigned_abs x ≤ 4 * MAX_OPERATORS → unsigned_abs k ≤ 4 * MAX_OPERATORS → FitsSigned w32 q → to_z w32 (of_z w32 x) ≡ to_z w32 (of_z w32 k) *ℤ q → x ≡ k *ℤ to_z w32 (of_z w32 q)
+entry_quotient : (x k q : ℤ) → unsigned_abs x ≤ 2 * MAX_OPERATORS → unsigned_abs k ≤ 2 * MAX_OPERATORS → FitsSigned w32 q → to_z w32 (of_z w32 x) ≡ to_z w32 (of_z w32 k) *ℤ q → x ≡ k *ℤ to_z w32 (of_z w32 q)
 entry_quotient x k q l m f e = sym (same_back x l) ∙ e ∙ ap₂ (λ u v. u *ℤ v) (same_back k m) (sym (to_z-of_z w32 q f))
 
-pub column_quotient : (c : Column) (k x y z : ℤ) → AreWithin (4 * MAX_OPERATORS) c.x c.y c.z → unsigned_abs k ≤ 4 * MAX_OPERATORS → (FitsSigned w32 x) × (FitsSigned w32 y) × (FitsSigned w32 z)
+pub column_quotient : (c : Column) (k x y z : ℤ) → AreWithin (2 * MAX_OPERATORS) c.x c.y c.z → unsigned_abs k ≤ 2 * MAX_OPERATORS → (FitsSigned w32 x) × (FitsSigned w32 y) × (FitsSigned w32 z)
     → to_z w32 (of_z w32 c.x) ≡ to_z w32 (of_z w32 k) *ℤ x → to_z w32 (of_z w32 c.y) ≡ to_z w32 (of_z w32 k) *ℤ y → to_z w32 (of_z w32 c.z) ≡ to_z w32 (of_z w32 k) *ℤ z
     → c ≡ times k (record { x = to_z w32 (of_z w32 x); y = to_z w32 (of_z w32 y); z = to_z w32 (of_z w32 z) })
 unfolding times

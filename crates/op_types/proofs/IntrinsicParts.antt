@@ -10,7 +10,7 @@ use Rattle.exact_ops.proofs.Narrow.{AreWithin-parts}
 use Rattle.group_closure.specs.declared.TheConstants.{MAX_OPERATORS}
 use Rattle.op_types.specs.Intrinsic.{IsIntrinsicPart}
 
-pub denominator : (k : ℕ) (x : ℤ) → x ≡ pos k → k ≤ 2 * MAX_OPERATORS → to_z w32 (of_z w32 (pos UNIT *ℤ to_z w32 (of_z w32 x))) ≡ pos (UNIT * k)
+pub denominator : (k : ℕ) (x : ℤ) → x ≡ pos k → k ≤ MAX_OPERATORS → to_z w32 (of_z w32 (pos UNIT *ℤ to_z w32 (of_z w32 x))) ≡ pos (UNIT * k)
 denominator k x e l = omega (arith, ints)
 
 pub intrinsic_part : (f : Operator) (w s : Matrix) (n t : Column) (k : ℕ) (d : ℤ) → w ≡ f.w → t ≡ f.t → IsOrder w k → s ≡ sum_of_powers w k → n ≡ s ·ᶜ t → d ≡ pos (UNIT * k) → IsIntrinsicPart f n d

@@ -1,5 +1,6 @@
 mod Turning
 mod Members
+mod SmallPowers
 mod Orders
 mod IntrinsicParts
 mod Lines

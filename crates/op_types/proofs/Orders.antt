@@ -67,7 +67,7 @@ improper_power w n d e =
 is_improper : (w : Matrix) → IsUnimodular w → (IsProper w → ⊥) → det w ≡ negsuc 0
 is_improper w u n = ⊎_elim (λ e. absurd (n (omega (arith, ints)))) (λ e. e) (IsUnimodular-det w u)
 
-proper_power : (w p : Matrix) (n : ℕ) → IsUnimodular w → IsProperPart w p → power w n ≡ identity → power p n ≡ identity
+pub proper_power : (w p : Matrix) (n : ℕ) → IsUnimodular w → IsProperPart w p → power w n ≡ identity → power p n ≡ identity
 proper_power w p n u h e =
     ⊎_elim (λ y. ap (λ m. power m n) (h.same y) ∙ e) (λ m. ap (λ q. power q n) (h.opposite_of m) ∙ improper_power w n (is_improper w u m) e) (proper_or_not (det w))
 

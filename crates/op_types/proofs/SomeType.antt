@@ -17,7 +17,8 @@ use Rattle.op_types.specs.Axis.{IsAlong, IsAxis, IsDirected}
 use Rattle.op_types.specs.Types.{OperationType, HasAxis, IsTypeOf}
 use Rattle.op_types.specs.Cycle.{HasSmallPowers}
 use Rattle.op_types.specs.Vector.{AreParallel, IsImage, x_column_of, y_column_of, z_column_of}
-use Rattle.op_types.proofs.Members.{small_powers, small_opposite, proper_or_not}
+use Rattle.op_types.proofs.Members.{proper_or_not}
+use Rattle.op_types.proofs.SmallPowers.{small_powers, small_part}
 use Rattle.op_types.proofs.Lines.{x_image, y_image, z_image, each_image, parallel_to}
 use Rattle.op_types.proofs.Divisors.{gcd_divides, gcd_greatest, gcd_size, no_divisor_left, directed_part, directed_opposite, opposite_divides}
 use Rattle.lattice_algebra.proofs.Numbers.{abs_neg}
@@ -184,5 +185,5 @@ pub some_type : (members : List Operator) (f : Operator) → IsGroup members →
 some_type members f g c =
     let small = small_powers members f g c in
     ⊎_elim (λ y. typed f f.w true small small (λ _. y, λ _. refl) (λ q h. h.same y))
-    (λ n. typed f (opposite f.w) false small (small_opposite members f g c) (λ t. absurd (false≢true t), λ y. absurd (n y)) (λ q h. h.opposite_of n))
+    (λ n. typed f (opposite f.w) false small (small_part members f (opposite f.w) g c (record { same = λ y. absurd (n y); opposite_of = λ _. refl })) (λ t. absurd (false≢true t), λ y. absurd (n y)) (λ q h. h.opposite_of n))
     (proper_or_not (det f.w))

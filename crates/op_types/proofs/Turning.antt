@@ -25,7 +25,7 @@ turned_none p = record {
 
 module _ (p : Matrix) (small : HasSmallPowers p) (k : ℕ) (m s : Matrix) (was : IsTurned p k m s) where
   -- the period is still to come
-  pub before_period : k < 2 * MAX_OPERATORS
+  pub before_period : k < MAX_OPERATORS
   before_period =
       let later : k < small.period = ⊎_elim (λ l. l) (λ l. absurd (was.above small.period small.positive l small.returns)) (cases_lt k small.period) in
       omega (arith, small.short)
@@ -33,7 +33,7 @@ module _ (p : Matrix) (small : HasSmallPowers p) (k : ℕ) (m s : Matrix) (was :
   pub narrow_power : HasEntriesWithin 2 m
   narrow_power = subst (HasEntriesWithin 2) (sym was.value) (small.narrow k)
 
-  pub wide_sum : HasEntriesWithin (4 * MAX_OPERATORS) s
+  pub wide_sum : HasEntriesWithin (2 * MAX_OPERATORS) s
   wide_sum = let l = before_period in let h = was.size in omega arith
 
   module _ (n t : Matrix) (e : n ≡ p · m) (d : t ≡ s +ᵐ m) where
@@ -67,5 +67,5 @@ module _ (p : Matrix) (small : HasSmallPowers p) (k : ℕ) (m s : Matrix) (was :
         at_least : (j : ℕ) → (k + 1 ≤ j) ⊎ (j < k + 1)
         at_least j = ⊎_elim (λ b. inr b) (λ b. inl b) (cases_lt j (k + 1))
 
-    pub turned_size : HasEntriesWithin (4 * MAX_OPERATORS) t
+    pub turned_size : HasEntriesWithin (2 * MAX_OPERATORS) t
     turned_size = let l = before_period in let h = next_size in omega arith

@@ -33,10 +33,10 @@ pub fn axis(g: &Group, i: u8) -> Option<[i32; 3]>
 
 /// A column of the matrix, the origin only where all of them are.
 fn some_column(m: &Rotation) -> Vector
-    requires { HasEntriesWithin (4 * MAX_OPERATORS) (matrix_in m.now) }
+    requires { HasEntriesWithin (2 * MAX_OPERATORS) (matrix_in m.now) }
     ensures image { IsImage (matrix_in m.now) (column_in result) }
     ensures origin { column_in result ≡ origin → matrix_in m.now ≡ no_matrix }
-    ensures size { AreWithin (4 * MAX_OPERATORS) result.x result.y result.z }
+    ensures size { AreWithin (2 * MAX_OPERATORS) result.x result.y result.z }
 {
     let first = x_column(m);
     if !first.is_origin() {
@@ -51,8 +51,8 @@ fn some_column(m: &Rotation) -> Vector
 
 /// Whether each column of the matrix is on one line with the vector.
 fn has_columns_along(m: &Rotation, along: &Vector) -> bool
-    requires left { HasEntriesWithin (4 * MAX_OPERATORS) (matrix_in m.now) }
-    requires right { AreWithin (4 * MAX_OPERATORS) along.now.x along.now.y along.now.z }
+    requires left { HasEntriesWithin (2 * MAX_OPERATORS) (matrix_in m.now) }
+    requires right { AreWithin (2 * MAX_OPERATORS) along.now.x along.now.y along.now.z }
     ensures { IsTrue result ↔ ((e : Column) → AreParallel (column_in along.now) (matrix_in m.now ·ᶜ e)) }
 {
     if !along.is_parallel(&x_column(m)) {

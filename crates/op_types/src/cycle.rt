@@ -18,9 +18,9 @@ pub struct Cycle {
 pub fn cycle_of(p: &Rotation) -> Cycle
     requires { HasSmallPowers (matrix_in p.now) }
     ensures order { IsOrder (matrix_in p.now) result.order }
-    ensures short { result.order ≤ 2 * MAX_OPERATORS }
+    ensures short { result.order ≤ MAX_OPERATORS }
     ensures sum { matrix_in result.sum ≡ sum_of_powers (matrix_in p.now) result.order }
-    ensures size { HasEntriesWithin (4 * MAX_OPERATORS) (matrix_in result.sum) }
+    ensures size { HasEntriesWithin (2 * MAX_OPERATORS) (matrix_in result.sum) }
 {
     let mut order = 0;
     let mut power = Rotation::IDENTITY;
@@ -48,7 +48,7 @@ const NO_MATRIX: Rotation = Rotation {
 };
 
 fn plus(a: &Rotation, b: &Rotation) -> Rotation
-    requires left { HasEntriesWithin (4 * MAX_OPERATORS) (matrix_in a.now) }
+    requires left { HasEntriesWithin (2 * MAX_OPERATORS) (matrix_in a.now) }
     requires right { HasEntriesWithin 2 (matrix_in b.now) }
     ensures { matrix_in result ≡ matrix_in a.now +ᵐ matrix_in b.now }
 {

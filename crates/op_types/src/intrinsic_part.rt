@@ -36,7 +36,7 @@ pub fn intrinsic(g: &Group, i: u8) -> Frac3
 
 /// What a matrix makes of a vector.
 fn image(m: &Rotation, v: &Vector) -> Vector
-    requires left { HasEntriesWithin (4 * MAX_OPERATORS) (matrix_in m.now) }
+    requires left { HasEntriesWithin (2 * MAX_OPERATORS) (matrix_in m.now) }
     requires right { AreWithin (PARTS - 1) v.now.x v.now.y v.now.z }
     ensures { column_in result ≡ matrix_in m.now ·ᶜ column_in v.now }
 {
@@ -49,7 +49,7 @@ fn image(m: &Rotation, v: &Vector) -> Vector
 
 /// A row times a column.
 fn dot(a: i32, b: i32, c: i32, x: i32, y: i32, z: i32) -> i32
-    requires left { AreWithin (4 * MAX_OPERATORS) a b c }
+    requires left { AreWithin (2 * MAX_OPERATORS) a b c }
     requires right { AreWithin (PARTS - 1) x y z }
     ensures { result ≡ sum_of_products a b c x y z }
 {

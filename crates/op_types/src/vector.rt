@@ -39,8 +39,8 @@ impl Vector {
 
     /// Whether both are on one line through the origin.
     pub fn is_parallel(&self, other: &Vector) -> bool
-        requires left { AreWithin (4 * MAX_OPERATORS) self.now.x self.now.y self.now.z }
-        requires right { AreWithin (4 * MAX_OPERATORS) other.now.x other.now.y other.now.z }
+        requires left { AreWithin (2 * MAX_OPERATORS) self.now.x self.now.y self.now.z }
+        requires right { AreWithin (2 * MAX_OPERATORS) other.now.x other.now.y other.now.z }
         ensures { IsTrue result ↔ AreParallel (column_in self.now) (column_in other.now) }
     {
         if !have_one_product(self.x, other.y, self.y, other.x) {
@@ -55,7 +55,7 @@ impl Vector {
     /// The vector of the same line without common divisor whose first entry other than 0 is positive.
     pub fn reduced(&self) -> Vector
         requires some { column_in self.now ≢ origin }
-        requires within { AreWithin (4 * MAX_OPERATORS) self.now.x self.now.y self.now.z }
+        requires within { AreWithin (2 * MAX_OPERATORS) self.now.x self.now.y self.now.z }
         ensures same { (k : ℤ) × (k ≢ pos 0) × (column_in self.now ≡ times k (column_in result)) }
         ensures no_divisor { HasNoDivisor (column_in result) }
         ensures directed { IsDirected (column_in result) }
@@ -84,9 +84,9 @@ impl Vector {
     /// The greatest common divisor of the entries with the sign of the first entry other than 0.
     fn signed_divisor(&self) -> i32
         requires some { column_in self.now ≢ origin }
-        requires within { AreWithin (4 * MAX_OPERATORS) self.now.x self.now.y self.now.z }
+        requires within { AreWithin (2 * MAX_OPERATORS) self.now.x self.now.y self.now.z }
         ensures some { result ≢ pos 0 }
-        ensures small { unsigned_abs result ≤ 4 * MAX_OPERATORS }
+        ensures small { unsigned_abs result ≤ 2 * MAX_OPERATORS }
         ensures divides { Divides result (column_in self.now) }
         ensures greatest { (d : ℤ) → Divides d (column_in self.now) → unsigned_abs d ∣ unsigned_abs result }
         ensures directed { (b : Column) → column_in self.now ≡ times result b → IsDirected b }
@@ -100,9 +100,9 @@ impl Vector {
     /// The greatest common divisor of the entries.
     fn common_divisor(&self) -> i32
         requires some { column_in self.now ≢ origin }
-        requires within { AreWithin (4 * MAX_OPERATORS) self.now.x self.now.y self.now.z }
+        requires within { AreWithin (2 * MAX_OPERATORS) self.now.x self.now.y self.now.z }
         ensures positive { pos 0 <ℤ result }
-        ensures small { unsigned_abs result ≤ 4 * MAX_OPERATORS }
+        ensures small { unsigned_abs result ≤ 2 * MAX_OPERATORS }
         ensures divides { Divides result (column_in self.now) }
         ensures greatest { (d : ℤ) → Divides d (column_in self.now) → unsigned_abs d ∣ unsigned_abs result }
     {
@@ -113,8 +113,8 @@ impl Vector {
 
 /// Whether a b is c d.
 fn have_one_product(a: i32, b: i32, c: i32, d: i32) -> bool
-    requires left { (unsigned_abs a ≤ 4 * MAX_OPERATORS) × (unsigned_abs b ≤ 4 * MAX_OPERATORS) }
-    requires right { (unsigned_abs c ≤ 4 * MAX_OPERATORS) × (unsigned_abs d ≤ 4 * MAX_OPERATORS) }
+    requires left { (unsigned_abs a ≤ 2 * MAX_OPERATORS) × (unsigned_abs b ≤ 2 * MAX_OPERATORS) }
+    requires right { (unsigned_abs c ≤ 2 * MAX_OPERATORS) × (unsigned_abs d ≤ 2 * MAX_OPERATORS) }
     ensures { IsTrue result ↔ (a *ℤ b ≡ c *ℤ d) }
 {
     a * b == c * d
@@ -123,7 +123,7 @@ fn have_one_product(a: i32, b: i32, c: i32, d: i32) -> bool
 /// The quotient of a number by a divisor of it.
 fn quotient(n: i32, divisor: i32) -> i32
     requires some { divisor ≢ pos 0 }
-    requires small { (unsigned_abs n ≤ 4 * MAX_OPERATORS) × (unsigned_abs divisor ≤ 4 * MAX_OPERATORS) }
+    requires small { (unsigned_abs n ≤ 2 * MAX_OPERATORS) × (unsigned_abs divisor ≤ 2 * MAX_OPERATORS) }
     requires divides { (q : ℤ) × (n ≡ divisor *ℤ q) }
     ensures { n ≡ divisor *ℤ result }
 {

@@ -4,7 +4,8 @@ use Rattle.lattice_algebra.specs.Matrix.{Matrix, matrix_of, column_of, origin}
 use Rattle.exact_ops.specs.Fields.{matrix_in}
 use Rattle.op_types.specs.Axis.{IsLine, IsAxis}
 use Rattle.op_types.specs.Vector.{column_in}
-use Rattle.op_types.proofs.Members.{small_proper, same_part}
+use Rattle.op_types.proofs.Members.{same_part}
+use Rattle.op_types.proofs.SmallPowers.{small_proper}
 use Rattle.op_types.proofs.FixedColumns.{reduced_axis, along_by, no_line_of_nothing, line_parallel}
 use Rattle.op_types.proofs.axes.axis.Goals as goal
 

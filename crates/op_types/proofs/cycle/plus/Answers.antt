@@ -5,7 +5,7 @@ use Rattle.exact_ops.specs.Fields.{matrix_in}
 use Rattle.group_closure.specs.declared.TheConstants.{MAX_OPERATORS}
 use Rattle.op_types.proofs.cycle.plus.Goals as goal
 
-added : (x y : ℤ) → unsigned_abs x ≤ 4 * MAX_OPERATORS → unsigned_abs y ≤ 2 → to_z w32 (of_z w32 (to_z w32 (of_z w32 x) +ℤ to_z w32 (of_z w32 y))) ≡ x +ℤ y
+added : (x y : ℤ) → unsigned_abs x ≤ 2 * MAX_OPERATORS → unsigned_abs y ≤ 2 → to_z w32 (of_z w32 (to_z w32 (of_z w32 x) +ℤ to_z w32 (of_z w32 y))) ≡ x +ℤ y
 added x y h k = omega (arith, ints)
 
 pub returns : goal.returns

@@ -6,7 +6,7 @@ use Rattle.group_closure.specs.declared.TheConstants.{MAX_OPERATORS}
 use Rattle.op_types.proofs.intrinsic_part.dot.Goals as goal
 
 abbrev bounds : List ℕ
-bounds = (4 * MAX_OPERATORS) ∷ (4 * MAX_OPERATORS) ∷ (4 * MAX_OPERATORS) ∷ (UNIT - 1) ∷ (UNIT - 1) ∷ (UNIT - 1) ∷ []
+bounds = (2 * MAX_OPERATORS) ∷ (2 * MAX_OPERATORS) ∷ (2 * MAX_OPERATORS) ∷ (UNIT - 1) ∷ (UNIT - 1) ∷ (UNIT - 1) ∷ []
 
 abbrev two : Expr
 two = var 0 ⊗ var 3 ⊕ var 1 ⊗ var 4

@@ -1,7 +1,7 @@
 use Rattle.std.proofs.Common.{ap, ◌∙◌}
 use Rattle.lattice_algebra.specs.Matrix.{matrix_of, column_of}
 use Rattle.op_types.specs.Vector.{column_in}
-use Rattle.op_types.proofs.Members.{small_member}
+use Rattle.op_types.proofs.SmallPowers.{small_member}
 use Rattle.op_types.proofs.IntrinsicParts.{denominator, intrinsic_part, in_cell}
 use Rattle.op_types.proofs.intrinsic_part.intrinsic.Goals as goal
 

@@ -1,6 +1,6 @@
 use Rattle.std.proofs.Common.{ap, ◌∙◌}
 use Rattle.lattice_algebra.specs.Matrix.{matrix_of}
-use Rattle.op_types.proofs.Members.{small_proper}
+use Rattle.op_types.proofs.SmallPowers.{small_proper}
 use Rattle.op_types.proofs.kinds.kind.Goals as goal
 
 pub cycle_of-requires : goal.cycle_of-requires

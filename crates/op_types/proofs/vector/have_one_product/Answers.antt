@@ -6,7 +6,7 @@ use Rattle.group_closure.specs.declared.TheConstants.{MAX_OPERATORS}
 use Rattle.op_types.proofs.vector.have_one_product.Goals as goal
 
 abbrev bounds : List ℕ
-bounds = (4 * MAX_OPERATORS) ∷ (4 * MAX_OPERATORS) ∷ (4 * MAX_OPERATORS) ∷ (4 * MAX_OPERATORS) ∷ []
+bounds = (2 * MAX_OPERATORS) ∷ (2 * MAX_OPERATORS) ∷ (2 * MAX_OPERATORS) ∷ (2 * MAX_OPERATORS) ∷ []
 
 abbrev numbers : goal.Start → List ℤ
 numbers c = c.args.a ∷ c.args.b ∷ c.args.c ∷ c.args.d ∷ []

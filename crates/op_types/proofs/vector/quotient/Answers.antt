@@ -11,4 +11,4 @@ returns c =
     let e = exact_quotient n d c.requires.divides.0 c.requires.some c.requires.divides.1 in
     let f : FitsSigned w32 n = search rules in
     let g : FitsSigned w32 d = search rules in
-    e ∙ ap (λ q. d *ℤ q) (sym (quot_is w32 n d f g (quotient_fits n d (int_div n d) (4 * MAX_OPERATORS) c.requires.some e c.requires.small.0 (omega arith))))
+    e ∙ ap (λ q. d *ℤ q) (sym (quot_is w32 n d f g (quotient_fits n d (int_div n d) (2 * MAX_OPERATORS) c.requires.some e c.requires.small.0 (omega arith))))

@@ -11,7 +11,7 @@ divisor : (c : goal.After-greatest_common_divisor) → IsDivisorOf (column_in c.
 divisor c =
     divisor_of (column_in c.args.self.now) _ _ _ _ _ c.requires.some c.requires.within c.unsigned_abs.ensures.value c.unsigned_abs-2.ensures.value c.unsigned_abs-3.ensures.value c.greatest_common_divisor-rest.ensures c.greatest_common_divisor.ensures
 
-fits : (g : ℕ) → g ≤ 4 * MAX_OPERATORS → FitsSigned w32 (pos g)
+fits : (g : ℕ) → g ≤ 2 * MAX_OPERATORS → FitsSigned w32 (pos g)
 fits g l = omega (arith, ints)
 
 pub overflow_cast-result : goal.overflow_cast-result
@@ -21,7 +21,7 @@ pub returns-clause-positive : goal.returns-clause-positive
 returns-clause-positive c = let g = divisor c in let p : pos 0 <ℤ pos c.greatest_common_divisor.result = above _ g.positive in subst (λ z. pos 0 <ℤ z) (sym (as_signed _ g.small)) p
 
 pub returns-clause-small : goal.returns-clause-small
-returns-clause-small c = let g = divisor c in subst (λ z. unsigned_abs z ≤ 4 * MAX_OPERATORS) (sym (as_signed _ g.small)) g.small
+returns-clause-small c = let g = divisor c in subst (λ z. unsigned_abs z ≤ 2 * MAX_OPERATORS) (sym (as_signed _ g.small)) g.small
 
 pub returns-clause-divides : goal.returns-clause-divides
 returns-clause-divides c = let g = divisor c in subst (λ z. Divides z (column_in c.args.self.now)) (sym (as_signed _ g.small)) g.divides
