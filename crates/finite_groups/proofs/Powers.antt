@@ -112,14 +112,6 @@ module _ (F : Group) where
   below : (k n : ℕ) → 0 < k → n % k < k
   below k n p = omega arith
 
-  -- the order divides each power that is the unit
-  pub returns_divides : (x : X) (k n : ℕ) → In x → IsOrder x k → power x n ≡ one → (q : ℕ) × (n ≡ q * k)
-  returns_divides x k n v o e = (n / k, multiple (n % k) (below k n o.positive) (quotient k n o.positive) (sym (power-rest x k (n / k) (n % k) n v o.returns (quotient k n o.positive)) ∙ e))
-    where
-      multiple : (r : ℕ) → r < k → n ≡ n / k * k + r → power x r ≡ one → n ≡ n / k * k
-      multiple zero l s b = omega arith
-      multiple (suc r) l s b = absurd (let le : k ≤ suc r = o.least (suc r) (omega arith) b in omega arith)
-
   is_power : (x : X) (n j : ℕ) → j < n → Contains (powers x n) (power x j)
   is_power x zero j l = absurd (omega arith)
   is_power x (suc n) j l =

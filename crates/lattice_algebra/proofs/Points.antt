@@ -1,5 +1,5 @@
 -- Equality of rational points by cross products, and their images.
-use Rattle.std.proofs.Common.{◌≡◌, ◌++◌, ◌∷◌, ℕ, ◌*◌, ◌<◌, ◌≤◌, ℤ, pos, negsuc, ◌*ℤ◌, ◌<ℤ◌, unsigned_abs, ap, ap₂, sym, ◌∙◌, arith, refl, mul-le-mul, le_refl}
+use Rattle.std.proofs.Common.{◌≡◌, ◌++◌, ◌∷◌, ℕ, ◌*◌, ◌<◌, ◌≤◌, ℤ, pos, negsuc, ◌*ℤ◌, ◌<ℤ◌, unsigned_abs, ap, ap₂, sym, ◌∙◌, arith, mul-le-mul, le_refl}
 use Rattle.std.proofs.lemmas.Int.{ints, unsigned_abs-mul}
 use Rattle.std.proofs.Math.Nat.{le_of_mul-le-mul_left}
 use lib.IntN.{*ℤ_comm}
@@ -12,9 +12,6 @@ use Rattle.lattice_algebra.proofs.MatrixRing.{matrix_at, column_at, ◌·ˢᶜ�
 use Rattle.lattice_algebra.proofs.Numbers.{above, positive_product}
 use Rattle.lattice_algebra.proofs.Columns.{cancel_column, swap_times}
 use Rattle.lattice_algebra.proofs.Maps.{shifted}
-
-pub ≈_refl : (p : Point) → p ≈ p
-≈_refl p = refl
 
 pub ≈_sym : (p q : Point) → p ≈ q → q ≈ p
 ≈_sym p q e = sym e

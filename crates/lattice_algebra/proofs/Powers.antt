@@ -153,16 +153,6 @@ power-opposite w (suc k) =
     (λ e. inl (ap (λ m. v · m) e ∙ scaled-· (negsuc 0) (negsuc 0) w p ∙ one_scaled (w · p)))
     (power-opposite w k)
 
--- where a power of W is the identity, so is that of -W or the one twice as high
-pub power-opposite_twice : (w : Matrix) (k : ℕ) → power w k ≡ identity → (power (scaled (negsuc 0) w) k ≡ identity) ⊎ (power (scaled (negsuc 0) w) (k + k) ≡ identity)
-power-opposite_twice w k e =
-    let v = scaled (negsuc 0) w in
-    ⊎_elim (λ p. inl (p ∙ e))
-    (λ p. inr (
-    power-add v k k ∙ ap₂ (λ m n. m · n) (p ∙ ap (scaled (negsuc 0)) e) (p ∙ ap (scaled (negsuc 0)) e) ∙ scaled-· (negsuc 0) (negsuc 0) identity identity ∙ one_scaled (identity · identity) ∙ identity-· identity
-    ))
-    (power-opposite w k)
-
 -- ---- sizes
 
 opposite_within : (n : ℕ) (x : ℤ) → unsigned_abs x ≤ n → unsigned_abs (negsuc 0 *ℤ x) ≤ n
