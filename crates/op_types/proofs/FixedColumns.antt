@@ -43,7 +43,7 @@ pub times_origin : (k : ℤ) → times k origin ≡ origin
 unfolding times
 times_origin k = column_ring (k ∷ []) (sym_times (var 0) sym_origin) sym_origin tt
 
-·ᶜ-times : (m : Matrix) (k : ℤ) (c : Column) → m ·ᶜ times k c ≡ times k (m ·ᶜ c)
+pub ·ᶜ-times : (m : Matrix) (k : ℤ) (c : Column) → m ·ᶜ times k c ≡ times k (m ·ᶜ c)
 unfolding ◌·ᶜ◌ times
 ·ᶜ-times m k c =
     let x = matrix_at 1 in

@@ -8,3 +8,4 @@ mod Divisors
 mod FixedColumns
 pub mod OneType
 pub mod SomeType
+mod Repeats

@@ -36,7 +36,7 @@ some_proper_part : (w : Matrix) → (p : Matrix) × IsProperPart w p
 some_proper_part w =
     ⊎_elim (λ y. (w, record { same = λ z. refl; opposite_of = λ n. absurd (n y) })) (λ n. (opposite w, record { same = λ y. absurd (n y); opposite_of = λ z. refl })) (proper_or_not (det w))
 
-same_order : (p : Matrix) (j k : ℕ) → IsOrder p j → IsOrder p k → j ≡ k
+pub same_order : (p : Matrix) (j k : ℕ) → IsOrder p j → IsOrder p k → j ≡ k
 same_order p j k h i =
     let l = h.least k i.positive i.returns in
     let m = i.least j h.positive h.returns in

@@ -2,7 +2,7 @@
 use Rattle.std.specs.Prelude.{◌≡◌, pos, negsuc, ◌<ℤ◌}
 use Rattle.lattice_algebra.specs.Matrix.{Matrix, det, scaled}
 
--- the handedness of W is +1: the cofactor formula is positive
+-- the handedness of W is +1: its determinant, by the cofactor formula, is positive
 abbrev pub IsProper : Matrix → Type 0
 IsProper w = pos 0 <ℤ det w
 

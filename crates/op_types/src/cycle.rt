@@ -15,6 +15,7 @@ pub struct Cycle {
     pub sum: Rotation,
 }
 
+/// Multiplies by the matrix until the identity comes back.
 pub fn cycle_of(p: &Rotation) -> Cycle
     requires { HasSmallPowers (matrix_in p.now) }
     ensures order { IsOrder (matrix_in p.now) result.order }

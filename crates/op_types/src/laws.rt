@@ -1,10 +1,13 @@
-ghost use Rattle.std.specs.Prelude.{ℕ, List, length};
+ghost use Rattle.std.specs.Prelude.{◌≡◌, ◌↔◌, ◌*◌, ℕ, ℤ, pos, List, length};
 ghost use Rattle.std.specs.Int.{◌∣◌};
 ghost use Rattle.std.specs.List.{Contains};
-ghost use Rattle.lattice_algebra.specs.Matrix.{Matrix};
+ghost use Rattle.lattice_algebra.specs.Matrix.{Matrix, Column, ◌·ᶜ◌, times, identity};
 ghost use Rattle.lattice_algebra.specs.Operator.{Operator};
+ghost use Rattle.lattice_algebra.specs.Map.{map_of};
 ghost use Rattle.lattice_algebra.specs.Powers.{IsOrder};
+ghost use Rattle.exact_ops.specs.declared.TheConstants.{UNIT};
 ghost use Rattle.group_closure.specs.GroupList.{IsGroup};
+ghost use Rattle.op_types.specs.Intrinsic.{IsIntrinsicPart, repeated};
 ghost use Rattle.op_types.specs.ProperPart.{IsProperPart};
 
 /// The order of the rotation part W of a member divides the order of the group: its number of members.
@@ -15,4 +18,12 @@ pub fn order_divides_length()
 /// The order of the proper part of a member, W or -W, divides the number of members too.
 pub fn proper_order_divides_length()
     ensures { (members : List Operator) (f : Operator) (p : Matrix) (k : ℕ) → IsGroup members → Contains members f → IsProperPart f.w p → IsOrder p k → k ∣ length members }
+{}
+
+/// An operation (W, t), as often as the order k of W says, is a translation, and n / d is its intrinsic part exactly where this
+/// translation is k n / d. W leaves the intrinsic part as it is, so it lies along the axis or in the plane.
+pub fn intrinsic_part_of_a_power()
+    ensures turned { (f : Operator) (k : ℕ) → IsOrder f.w k → (repeated (map_of f) k).w ≡ identity }
+    ensures translation { (f : Operator) (n : Column) (d : ℤ) (k : ℕ) → IsOrder f.w k → IsIntrinsicPart f n d ↔ (times d (repeated (map_of f) k).s ≡ times (pos (UNIT * k)) n) }
+    ensures fixed { (f : Operator) (n : Column) (d : ℤ) → IsIntrinsicPart f n d → f.w ·ᶜ n ≡ n }
 {}

@@ -1,4 +1,4 @@
-//! Types that bear the name of a function of the crate.
+//! The type `Kind`, apart from the function `kind`: no module has two names that differ in a capital alone.
 
 /// A rotation of this order, or such a rotation with the inversion. International Tables A: n where it is proper, and -n
 /// where it is not; -2 is a reflection, m.
