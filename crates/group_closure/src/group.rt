@@ -17,6 +17,7 @@ use std::marker::Model;
 pub enum CloseFault {
     /// It generates more than `MAX_OPERATORS` operators, or one with an entry outside -2..=2.
     Unclosed,
+    /// Want of memory, which may come for any list.
     NoMemory,
 }
 
@@ -95,7 +96,7 @@ impl Group {
         None
     }
 
-    /// The place of the member at i after the one at j, modulo the cell.
+    /// The place of the product: the member at i after the member at j, its translation taken modulo the cell.
     pub fn product(&self, i: u8, j: u8) -> u8
         requires left { i < length self.now }
         requires right { j < length self.now }

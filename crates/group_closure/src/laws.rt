@@ -7,7 +7,7 @@ ghost use Rattle.group_closure.specs.GroupList.{IsGroupList};
 
 use crate::MAX_OPERATORS;
 
-/// A list has at most one group list.
+/// A list has at most one group list: the members of the group that it generates, in order.
 pub fn one_group_list()
     ensures { (list a b : List Operator) → IsGroupList list a → IsGroupList list b → a ≡ b }
 {}
@@ -17,12 +17,12 @@ pub fn same_members_same_list()
     ensures { (list other members : List Operator) → ((f : Operator) → Contains list f ↔ Contains other f) → IsGroupList list members → IsGroupList other members }
 {}
 
-/// A list closes where its group list is short and all its members are narrow.
+/// A list closes where its group list has at most `MAX_OPERATORS` members, each narrow: an operator with no entry outside -2..=2.
 pub fn short_narrow_list_closes()
     ensures { (list members : List Operator) → IsGroupList list members → length members ≤ MAX_OPERATORS → All IsNarrow members → Closes list }
 {}
 
-/// A list that is Unclosed does not close.
+/// No list is both: one that `Group::close` refuses as `Unclosed` does not close.
 pub fn unclosed_never_closes()
     ensures { (list : List Operator) → IsUnclosed list → ¬ Closes list }
 {}

@@ -21,7 +21,8 @@ pub fn proper_order_divides_length()
 {}
 
 /// An operation (W, t), as often as the order k of W says, is a translation, and n / d is its intrinsic part exactly where this
-/// translation is k n / d. W leaves the intrinsic part as it is, so it lies along the axis or in the plane.
+/// translation is k n / d. W leaves the intrinsic part as it is: so that of a rotation lies along its axis, and that of a
+/// reflection in its plane.
 pub fn intrinsic_part_of_a_power()
     ensures turned { (f : Operator) (k : ℕ) → IsOrder f.w k → (repeated (map_of f) k).w ≡ identity }
     ensures translation { (f : Operator) (n : Column) (d : ℤ) (k : ℕ) → IsOrder f.w k → IsIntrinsicPart f n d ↔ (times d (repeated (map_of f) k).s ≡ times (pos (UNIT * k)) n) }

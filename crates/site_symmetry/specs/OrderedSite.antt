@@ -1,4 +1,4 @@
--- The site-symmetry group of a point as a list, in the order of the operators.
+-- The site-symmetry group of a point as a list. International Tables A; the order, that of the operators, is this project's own.
 use Rattle.std.specs.Prelude.{◌≡◌, ◌<◌, ℕ, Some, List, slice_get}
 use Rattle.std.specs.List.{AllPairs}
 use Rattle.lattice_algebra.specs.Operator.{Operator}
@@ -11,7 +11,7 @@ use Rattle.space_groups.specs.Lists.{IsSiteList}
 abbrev pub SomeElementFixes : Operator → Point → Type 0
 SomeElementFixes f x = (s : Map) × (operator_of UNIT s ≡ f) × (image UNIT s x ≈ x)
 
--- the operator of a stands before that of b
+-- in the list of members the operator of a stands before that of b
 abbrev pub StandsBefore : List Operator → Map → Map → Type 0
 StandsBefore members a b = (i j : ℕ) → slice_get members i ≡ Some (operator_of UNIT a) → slice_get members j ≡ Some (operator_of UNIT b) → i < j
 

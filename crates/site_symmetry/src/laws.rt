@@ -16,22 +16,22 @@ pub fn one_element_of_a_rotation()
         → IsInSite UNIT members x a → IsInSite UNIT members x b → a.w ≡ b.w → a ≡ b }
 {}
 
-/// The site-symmetry group of the image g x is that of x, each element s as g s g^-1.
+/// The elements of the site-symmetry group of the image g x are g r g^-1, for r in that of x.
 pub fn site_of_image()
     ensures { (members : List Operator) (x : Point) (g back s : Map) → IsGroup members → IsPoint x → IsElement UNIT members g → AreInverse g back
         → (IsInSite UNIT members (image UNIT g x) s ↔ ((r : Map) × IsInSite UNIT members x r × (s ≡ g ∘ r ∘ back))) }
 {}
 
-/// Points are conjugate exactly where some element g has, for each member of the group, the same element of that member
-/// in the site-symmetry groups of g x and of y, or none in both.
+/// x and y are conjugate exactly where some element g of the space group makes an image g x with the site-symmetry group of
+/// y, compared member by member: each member of the group has the same element in both of them, or none in both.
 pub fn conjugate_by_members()
     ensures { (members : List Operator) (x y : Point) → IsGroup members → IsPoint x → IsPoint y
         → (AreConjugate UNIT members x y ↔ ((g : Map) × IsElement UNIT members g
         × ((f : Operator) → Contains members f → HaveSameElement UNIT members f (image UNIT g x) y))) }
 {}
 
-/// Lagrange's theorem: members of a group, each once, at least one of them and with the product of each two, are so many
-/// that their number divides that of the group.
+/// Lagrange's theorem: a list of members of a group, at least one, each once, that has the product of each two of its own, has
+/// a length that divides the number of members.
 pub fn members_of_a_subgroup_divide()
     ensures { (members part : List Operator) (some : Operator) → IsGroup members → AreDistinct part → Contains part some
         → ((f : Operator) → Contains part f → Contains members f)
@@ -39,12 +39,12 @@ pub fn members_of_a_subgroup_divide()
         → length part ∣ length members }
 {}
 
-/// Each rational point has a site-symmetry group in order.
+/// Each rational point has a list of its site-symmetry group, in the order of the operators.
 pub fn site_of_point()
     ensures { (members : List Operator) (x : Point) → IsGroup members → IsPoint x → (site : List Map) × IsOrderedSite members x site }
 {}
 
-/// And one only.
+/// It has one such list only.
 pub fn one_ordered_site()
     ensures { (members : List Operator) (x : Point) (a b : List Map) → IsGroup members → IsPoint x → IsOrderedSite members x a → IsOrderedSite members x b → a ≡ b }
 {}
