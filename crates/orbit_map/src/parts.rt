@@ -1,4 +1,4 @@
-//! Types that bear the name of a function of the crate.
+//! The type `Orbit`, apart from the function `orbit`: no module has two names that differ in a capital alone.
 
 ghost use Rattle.std.specs.Prelude.{◌≡◌, ◌<◌, ◌≤◌, Some, length, slice_get};
 ghost use Rattle.exact_ops.specs.Numbers.{point_in};
