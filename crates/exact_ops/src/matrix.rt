@@ -41,6 +41,7 @@ impl Rotation {
         zz: 1,
     };
 
+    /// The matrix with these entries, row by row.
     pub fn of(rows: &[i32; 9]) -> Rotation
         ensures { matrix_in result ≡ matrix_of rows.now }
     {
@@ -57,6 +58,7 @@ impl Rotation {
         }
     }
 
+    /// Its entries, row by row.
     pub fn rows(&self) -> [i32; 9]
         ensures { result ≡ entries (matrix_in self.now) }
     {
@@ -102,7 +104,7 @@ impl Rotation {
         d == 1 || d == -1
     }
 
-    /// The determinant of a matrix that has a whole inverse.
+    /// The determinant of a matrix that has a whole inverse: 1 or -1.
     pub fn sign(&self) -> i32
         requires small { HasEntriesWithin 2304 (matrix_in self.now) }
         requires unimodular { IsUnimodular (matrix_in self.now) }
@@ -112,7 +114,7 @@ impl Rotation {
         if self.determinant() == 1 { 1 } else { -1 }
     }
 
-    /// Self after first.
+    /// The product `self * first`: what comes of `first` and then `self`.
     pub fn after(&self, first: &Rotation) -> Rotation
         requires left { HasEntriesWithin 2 (matrix_in self.now) }
         requires right { HasEntriesWithin 2 (matrix_in first.now) }

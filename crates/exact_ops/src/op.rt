@@ -111,7 +111,8 @@ impl Op {
         ]
     }
 
-    /// The whole shift of self after first, where first is shifted by whole cells.
+    /// The whole shift of the product self after first, where first is shifted by these whole cells: what its
+    /// translation has beside that of `compose`.
     pub fn shift_after(&self, first: &Op, shift: &[i64; 3]) -> [i64; 3]
         requires { IsShiftInRange (column_of shift.now) }
         ensures value { IsShift PARTS (map_of self.now ∘ map_with first.now shift.now) (column_of result) }

@@ -50,7 +50,8 @@ impl OpList {
         }
     }
 
-    /// Adds a Raw at the end. `NotUnimodular` comes exactly where its matrix has no whole inverse.
+    /// Adds a Raw at the end. `NotUnimodular` comes exactly where its matrix has no whole inverse. After an Err the
+    /// list is as it was.
     pub fn push(&mut self, raw: &Raw) -> Result<(), PushFault>
         ensures ok { OnOk result (self.new ≡ self.old ++ numbers_of raw.now.w raw.now.t ∷ []) }
         ensures err { OnErr result (self.new ≡ self.old) }

@@ -4,8 +4,8 @@ ghost use Rattle.exact_ops.specs.Raw.{numbers_of, IsInRange};
 
 use crate::matrix::{Rotation, Translation};
 
-/// What a triplet says: the matrix row by row, each entry within ±2304, and the translation in parts of a cell, each
-/// from 0 to `UNIT - 1`. It need not be an operator.
+/// What a triplet says: the matrix row by row, each entry within ±2304, which no line of 255 bytes leaves, and the
+/// translation in parts of a cell, each from 0 to `UNIT - 1`. It need not be an operator.
 #[derive(Clone, Copy, PartialEq, Eq, Debug, Drop)]
 pub struct Raw {
     pub w: [i32; 9],

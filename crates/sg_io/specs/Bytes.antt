@@ -2,7 +2,7 @@
 use Rattle.std.specs.Prelude.{ℕ, ◌≡◌, List, ◌++◌, length, Option}
 use Rattle.std.specs.Io.KnownBytes.{Appends, Consumes}
 
--- some bytes were taken off the front, and their number is such
+-- some bytes were taken off the front, and IsSuch holds of their number
 abbrev pub ConsumesSome : Option (List ℕ) → Option (List ℕ) → (ℕ → Type 0) → Type 0
 ConsumesSome old new IsSuch = (bytes : List ℕ) × Consumes old new bytes × IsSuch (length bytes)
 

@@ -36,7 +36,7 @@ pub trait Sink {
         ensures no_memory { IsErrOf result SinkStop.NoMemory → Rose (wants self.old) (wants self.new) };
 }
 
-/// Writes all the bytes, in as many calls as it takes.
+/// Writes all the bytes, in as many calls as it takes. After an Err the sink has taken a front of them.
 pub fn put_all<K: Sink>(sink: &mut K, bytes: &[u8]) -> Result<(), SinkStop>
     ensures ok { OnOk result (Appends (K.held sink.old) (K.held sink.new) bytes.now) }
     ensures err { OnErr result (AppendsFront (K.held sink.old) (K.held sink.new) bytes.now) }

@@ -18,7 +18,7 @@ pub trait Source {
     /// How often a read has failed. It never falls.
     ghost faults: { Self → ℕ };
 
-    /// Fills the front of the buffer with the next bytes, and says with how many. None for a buffer that is not empty
+    /// Fills the front of the buffer with the next bytes, and says with how many. 0 for a buffer that is not empty
     /// means the end of the input. A read that failed took no byte.
     fn read(&mut self, buf: &mut [u8]) -> Result<usize, Failed>
         ensures bound { ReadsAtMost result buf.new }
@@ -32,9 +32,9 @@ pub trait Source {
 pub enum ReadStop {
     /// There is no memory for the bytes. The source was not read.
     NoMemory,
-    /// A read failed.
+    /// A read failed. What was read before it is lost.
     Failed,
-    /// There is more than the limit.
+    /// There is more than the limit. One byte beyond it was read.
     TooLong,
 }
 

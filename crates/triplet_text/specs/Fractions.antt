@@ -2,7 +2,7 @@
 use Rattle.std.specs.Prelude.{◌==◌, ◌&&◌, if◌then◌else◌, ℕ, zero, suc, ℤ, pos, negsuc, unsigned_abs, List, ◌∷◌, ◌++◌, ◌/◌, ◌%◌, decimal}
 use Rattle.triplet_text.specs.Bytes.{stroke, minus_sign}
 
--- the greatest number up to k that divides n and d
+-- the greatest number from 1 to k that divides n and d; 0 where k is 0
 unfoldable pub common_divisor_up_to : ℕ → ℕ → ℕ → ℕ
 common_divisor_up_to n d zero = 0
 common_divisor_up_to n d (suc k) = if n % suc k == 0 && d % suc k == 0 then suc k else common_divisor_up_to n d k

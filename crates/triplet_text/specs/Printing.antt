@@ -32,7 +32,7 @@ joined text [] = text
 joined [] (byte ∷ term) = byte ∷ term
 joined (first ∷ text) (byte ∷ term) = (first ∷ text) ++ (if byte == minus_sign then byte ∷ term else plus_sign ∷ byte ∷ term)
 
--- the terms in the order x, y, z, constant: coefficients over d, and a constant over UNIT * d
+-- the terms in the order x, y, z (120, 121, 122), constant: coefficients over d, and a constant over UNIT * d
 abbrev pub terms_text : ℕ → ℤ → ℤ → ℤ → ℤ → List ℕ
 terms_text d x y z parts = fold joined [] (coefficient_text d x 120 ∷ coefficient_text d y 121 ∷ coefficient_text d z 122 ∷ constant_text (UNIT * d) parts ∷ [])
 

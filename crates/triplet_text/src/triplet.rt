@@ -14,7 +14,8 @@ use exact_ops::{Raw, UNIT};
 /// What the line says, such as `-x, y+1/2, 2*z`: None exactly where it is no triplet. A triplet has at most 255 bytes:
 /// three sums with commas between them, in two like quotes or none. A term of a sum is a letter, a digit and a letter
 /// with a star or none between them, a whole number of cells, a fraction whose denominator divides `UNIT`, or a decimal
-/// that is a whole number of parts of a cell.
+/// that is a whole number of parts of a cell. The sums are the rows of the matrix, and their constants modulo the cell
+/// the translation. docs/formats.md has the whole grammar.
 pub fn read_triplet(line: &[u8]) -> Option<Raw>
     ensures some { IfSome result (λ raw. IsTriplet line.now (numbers raw)) }
     ensures none { IfNone result ((f : Operator) → ¬ IsTriplet line.now f) }
