@@ -1,5 +1,6 @@
 ghost use Rattle.std.specs.Prelude.{◌≡◌, ◌≢◌, ◌↔◌, [], ◌≤◌, None, IfOk};
 ghost use Rattle.std.specs.Io.{ReadsAtMost, WritesAtMost};
+ghost use Rattle.std.specs.Io.KnownBytes.{ReadConsumes};
 ghost use Rattle.sg_io.specs.Count.{CountsErrors};
 
 use crate::count::Count;
@@ -7,7 +8,7 @@ use crate::sink::{Sink, SinkStop};
 use crate::source::{Failed, Source};
 use std::io::{Read, Write};
 
-/// Any reader of std. It tells no bytes, and tries no read again.
+/// Any reader of std. It tells the bytes that the reader tells, and tries no read again.
 #[derive(Drop)]
 pub struct StdSource<R> {
     inner: R,
@@ -16,7 +17,8 @@ pub struct StdSource<R> {
 
 impl<R: Read> StdSource<R> {
     pub fn new(inner: R) -> StdSource<R>
-        ensures { ⟦<StdSource<R> as Source>⟧.faults result ≡ 0 }
+        ensures left { ⟦<StdSource<R> as Source>⟧.left result ≡ R.remaining inner }
+        ensures faults { ⟦<StdSource<R> as Source>⟧.faults result ≡ 0 }
     {
         StdSource {
             inner,
@@ -26,12 +28,14 @@ impl<R: Read> StdSource<R> {
 }
 
 impl<R: Read> Source for StdSource<R> {
-    ghost left = { λ _. None };
+    ghost left = { λ s. R.remaining s.inner };
 
     ghost faults = { λ s. s.faults };
 
     fn read(&mut self, buf: &mut [u8]) -> Result<usize, Failed>
         ensures bound { ReadsAtMost result buf.new }
+        ensures bytes { let left = ⟦<StdSource<R> as Source>⟧.left in
+            ReadConsumes (left self.old) (left self.new) result buf.new }
         ensures faults_later { let faults = ⟦<StdSource<R> as Source>⟧.faults in
             faults self.old ≤ faults self.new }
         ensures counted { let faults = ⟦<StdSource<R> as Source>⟧.faults in
