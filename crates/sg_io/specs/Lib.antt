@@ -1,3 +1,4 @@
 pub mod Bytes
 pub mod Count
 pub mod Memory
+pub mod Writer

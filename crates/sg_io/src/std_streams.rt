@@ -1,12 +1,13 @@
-ghost use Rattle.std.specs.Prelude.{◌≡◌, ◌≢◌, ◌↔◌, [], ◌≤◌, None, IfOk};
+ghost use Rattle.std.specs.Prelude.{◌≡◌, ◌≢◌, ◌↔◌, [], ◌≤◌, None, IfOk, take};
 ghost use Rattle.std.specs.Io.{ReadsAtMost, WritesAtMost};
-ghost use Rattle.std.specs.Io.KnownBytes.{ReadConsumes};
+ghost use Rattle.std.specs.Io.KnownBytes.{Appends, ReadConsumes};
 ghost use Rattle.sg_io.specs.Count.{CountsErrors};
 
 use crate::count::Count;
 use crate::sink::{Sink, SinkStop};
 use crate::source::{Failed, Source};
 use std::io::{Read, Write};
+use std::marker::Model;
 
 /// Any reader of std. It tells the bytes that the reader tells, and tries no read again.
 #[derive(Drop)]
@@ -51,17 +52,27 @@ impl<R: Read> Source for StdSource<R> {
     }
 }
 
-/// Any writer of std, flushed after each write. It tells no bytes, and tries no write again. A write that takes none of
+/// Any writer of std, flushed after each write. As a sink it tells no bytes: where the flush fails after a write, the writer
+/// has taken them although the sink has not. It tries no write again. A write that takes none of
 /// a piece that is not empty is a fault.
 #[derive(Drop)]
-pub struct StdSink<W> {
+pub struct StdSink<W: Write> {
     inner: W,
     faults: Count,
 }
 
+impl<W: Write> Model for StdSink<W> {
+    ghost use Rattle.sg_io.specs.Writer.{Writer};
+
+    ghost Value = { Writer };
+
+    ghost view = { λ a. record { contents = W.contents a.inner; faults = a.faults } };
+}
+
 impl<W: Write> StdSink<W> {
     pub fn new(inner: W) -> StdSink<W>
-        ensures { ⟦<StdSink<W> as Sink>⟧.faults result ≡ 0 }
+        ensures contents { result.contents ≡ W.contents inner }
+        ensures faults { ⟦<StdSink<W> as Sink>⟧.faults result ≡ 0 }
     {
         StdSink {
             inner,
@@ -79,6 +90,8 @@ impl<W: Write> Sink for StdSink<W> {
 
     fn write(&mut self, piece: &[u8]) -> Result<usize, SinkStop>
         ensures bound { WritesAtMost result piece.now }
+        // The writer has taken what is counted.
+        ensures taken { IfOk result (λ count. Appends self.old.contents self.new.contents (take count piece.now)) }
         ensures none { IfOk result (λ count. (count ≡ 0) ↔ (piece.now ≡ [])) }
         ensures never_wants { result ≢ Err SinkStop.NoMemory }
         ensures faults_later { let faults = ⟦<StdSink<W> as Sink>⟧.faults in
