@@ -28,4 +28,6 @@ mean 'a process that does nothing' "$runs" /dev/null /bin/true
 mean 'ops, P2_1/c (4 operators)' "$runs" examples/p21c.txt "$sg" ops
 mean 'ops, Fm-3m (192 operators)' "$runs" examples/fm-3m.txt "$sg" ops
 mean 'types, Fm-3m (192 operators)' "$runs" examples/fm-3m.txt "$sg" types
+mean 'site 0 0 0, Fm-3m (192 operators)' "$runs" examples/fm-3m.txt "$sg" site 0 0 0
+mean 'site 0.11 0.22 0.35, Fm-3m' "$runs" examples/fm-3m.txt "$sg" site 0.11 0.22 0.35
 mean 'ops, 174,762 equal lines' "$((runs / 10 + 1))" "$most" "$sg" ops
