@@ -9,7 +9,7 @@ use Rattle.lattice_algebra.proofs.Machine.{read}
 use Rattle.lattice_algebra.proofs.Remainders.{modulo_parts}
 use Rattle.lattice_algebra.proofs.Maps.{operator_path}
 use Rattle.lattice_algebra.proofs.Operators.{IsOperator-product}
-use Rattle.exact_ops.specs.declared.TheConstants.{UNIT}
+use Rattle.exact_ops.specs.declared.TheConstants.{UNIT, MAX_ENTRY}
 use Rattle.exact_ops.specs.Narrow.{IsNarrow}
 
 pub some_parts : 0 < UNIT
@@ -23,7 +23,7 @@ AreWithin-parts c p =
     let z = p.z in
     record { first = omega (arith, ints); second = omega (arith, ints); third = omega (arith, ints) }
 
-pub wider : (m : Matrix) → HasEntriesWithin 2 m → HasEntriesWithin 2304 m
+pub wider : (m : Matrix) → HasEntriesWithin 2 m → HasEntriesWithin MAX_ENTRY m
 wider m h = omega arith
 
 -- the operator with the numbers w and t, where they are those of f

@@ -3,6 +3,7 @@
 //! International Tables A: the symmetry operation `x -> W x + t / UNIT`, taken modulo the translations of the lattice.
 #![tactic(auto)]
 
+mod divisors;
 mod image;
 mod matrix;
 mod moves;
@@ -11,6 +12,7 @@ mod op_list;
 mod point;
 mod raw;
 
+pub use divisors::greatest_common_divisor;
 pub use matrix::Rotation;
 pub use moves::Move;
 pub use op::{Op, OpFault, compose, inverse};
@@ -20,6 +22,9 @@ pub use raw::Raw;
 
 /// The number of parts of a cell in which translations are counted.
 pub const UNIT: u32 = 12;
+
+/// The greatest size of an entry of a matrix that is read. A line of a triplet adds less to each.
+pub const MAX_ENTRY: u32 = 2304;
 
 /// The greatest size of a coordinate of a point, in cells.
 pub const MAX_COORDINATE: u32 = 1_000_000_000;

@@ -2,6 +2,7 @@ ghost use Rattle.std.specs.Prelude.{◌≡◌, ◌≤◌, ◌↔◌, ◌*◌, �
 ghost use Rattle.std.specs.Int.{int_div_euclid, int_rem_euclid};
 ghost use Rattle.lattice_algebra.specs.Matrix.{sum_of_products, entries, matrix_of, column_of, coordinates, det, adjugate, scaled, neg_column, times, IsUnimodular, ◌·◌, ◌·ᶜ◌, ◌+ᶜ◌};
 ghost use Rattle.lattice_algebra.specs.Operator.{modulo, IsPart, AreParts, AreWithin, HasEntriesWithin};
+ghost use Rattle.exact_ops.specs.declared.TheConstants.{MAX_ENTRY};
 ghost use Rattle.exact_ops.specs.Fields.{matrix_in, column_in};
 
 use crate::UNIT;
@@ -82,9 +83,9 @@ impl Rotation {
 
     /// The cofactor formula.
     pub fn determinant(&self) -> i64
-        requires { HasEntriesWithin 2304 (matrix_in self.now) }
+        requires { HasEntriesWithin MAX_ENTRY (matrix_in self.now) }
         ensures value { result ≡ det (matrix_in self.now) }
-        ensures size { unsigned_abs result ≤ 6 * 2304 ^ 3 }
+        ensures size { unsigned_abs result ≤ 6 * MAX_ENTRY ^ 3 }
     {
         let x = minor(self.yy, self.zz, self.yz, self.zy);
         let y = minor(self.yx, self.zz, self.yz, self.zx);
@@ -97,7 +98,7 @@ impl Rotation {
 
     /// Whether it has a whole inverse.
     pub fn is_unimodular(&self) -> bool
-        requires { HasEntriesWithin 2304 (matrix_in self.now) }
+        requires { HasEntriesWithin MAX_ENTRY (matrix_in self.now) }
         ensures { IsTrue result ↔ IsUnimodular (matrix_in self.now) }
     {
         let d = self.determinant();
@@ -106,7 +107,7 @@ impl Rotation {
 
     /// The determinant of a matrix that has a whole inverse: 1 or -1.
     pub fn sign(&self) -> i32
-        requires small { HasEntriesWithin 2304 (matrix_in self.now) }
+        requires small { HasEntriesWithin MAX_ENTRY (matrix_in self.now) }
         requires unimodular { IsUnimodular (matrix_in self.now) }
         ensures sign { unsigned_abs result ≤ 1 }
         ensures value { result ≡ det (matrix_in self.now) }
@@ -267,10 +268,10 @@ fn carry(a: i32, b: i32, c: i32, x: i32, y: i32, z: i32, t: i32) -> i32
 
 /// A cofactor of a matrix of a Raw, but for its sign.
 fn minor(a: i32, b: i32, c: i32, d: i32) -> i64
-    requires left { (unsigned_abs a ≤ 2304) × (unsigned_abs b ≤ 2304) }
-    requires right { (unsigned_abs c ≤ 2304) × (unsigned_abs d ≤ 2304) }
+    requires left { (unsigned_abs a ≤ MAX_ENTRY) × (unsigned_abs b ≤ MAX_ENTRY) }
+    requires right { (unsigned_abs c ≤ MAX_ENTRY) × (unsigned_abs d ≤ MAX_ENTRY) }
     ensures value { result ≡ a *ℤ b -ℤ c *ℤ d }
-    ensures size { unsigned_abs result ≤ 2 * 2304 ^ 2 }
+    ensures size { unsigned_abs result ≤ 2 * MAX_ENTRY ^ 2 }
 {
     let a = i64::from(a);
     let b = i64::from(b);

@@ -2,9 +2,10 @@ ghost use Rattle.std.specs.Prelude.{◌≡◌, ◌↔◌, IsTrue, IsSome, IfSome
 ghost use Rattle.lattice_algebra.specs.Matrix.{matrix_of, IsUnimodular};
 ghost use Rattle.exact_ops.specs.Raw.{numbers_of, IsInRange};
 
+use crate::MAX_ENTRY;
 use crate::matrix::{Rotation, Translation};
 
-/// What a triplet says: the matrix row by row, each entry within ±2304, which no line of 255 bytes leaves, and the
+/// What a triplet says: the matrix row by row, each entry at most `MAX_ENTRY` in size, and the
 /// translation in parts of a cell, each from 0 to `UNIT - 1`. It need not be an operator.
 #[derive(Clone, Copy, PartialEq, Eq, Debug, Drop)]
 pub struct Raw {
@@ -20,7 +21,7 @@ impl Raw {
         ensures value { IfSome result (λ raw. (raw.w ≡ w) × (raw.t ≡ t)) }
     {
         let rotation = Rotation::of(&w);
-        if !rotation.is_within(2304) {
+        if !rotation.is_within(MAX_ENTRY) {
             return None;
         }
         let translation = Translation::of(&t);

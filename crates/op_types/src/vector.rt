@@ -1,10 +1,12 @@
 ghost use Rattle.std.specs.Prelude.{◌≡◌, ◌≢◌, ◌≤◌, ◌↔◌, ◌*◌, ℕ, ℤ, pos, ◌<ℤ◌, ◌*ℤ◌, unsigned_abs, IsTrue};
-ghost use Rattle.std.specs.Int.{IsGcd, ◌∣◌};
+ghost use Rattle.std.specs.Int.{◌∣◌};
 ghost use Rattle.lattice_algebra.specs.Matrix.{Column, column_of, coordinates, times, origin};
 ghost use Rattle.lattice_algebra.specs.Operator.{AreWithin};
 ghost use Rattle.group_closure.specs.declared.TheConstants.{MAX_OPERATORS};
 ghost use Rattle.op_types.specs.Axis.{IsDirected, HasNoDivisor};
 ghost use Rattle.op_types.specs.Vector.{column_in, AreParallel, Divides};
+
+use exact_ops::greatest_common_divisor;
 
 /// A vector in whole multiples of the basis.
 #[derive(Clone, Copy, Drop)]
@@ -106,8 +108,10 @@ impl Vector {
         ensures divides { Divides result (column_in self.now) }
         ensures greatest { (d : ℤ) → Divides d (column_in self.now) → unsigned_abs d ∣ unsigned_abs result }
     {
-        let rest = greatest_common_divisor(self.y.unsigned_abs(), self.z.unsigned_abs());
-        greatest_common_divisor(self.x.unsigned_abs(), rest) as i32
+        let x = u128::from(self.x.unsigned_abs());
+        let y = u128::from(self.y.unsigned_abs());
+        let z = u128::from(self.z.unsigned_abs());
+        greatest_common_divisor(x, greatest_common_divisor(y, z)) as i32
     }
 }
 
@@ -128,18 +132,4 @@ fn quotient(n: i32, divisor: i32) -> i32
     ensures { n ≡ divisor *ℤ result }
 {
     n / divisor
-}
-
-/// By Euclid's algorithm.
-fn greatest_common_divisor(n: u32, d: u32) -> u32
-    ensures { IsGcd n d result }
-{
-    let mut a = n;
-    let mut b = d;
-    while b != 0 {
-        let rest = a % b;
-        a = b;
-        b = rest;
-    }
-    a
 }

@@ -1,5 +1,6 @@
 -- The number of points of an orbit as a quotient.
 use Rattle.std.proofs.Common.{◌≡◌, ◌<◌, ◌*◌, ◌/◌, ℕ, zero, suc, List, length, arith, ap, sym, ◌∙◌, subst}
+use Rattle.std.proofs.Math.Nat.{dvd-mul_right, pos_of_dvd_of_pos}
 use Rattle.std.proofs.lemmas.Option.{slice_get_within}
 use Rattle.lattice_algebra.specs.Operator.{Operator, identity_operator}
 use Rattle.lattice_algebra.specs.Map.{Map}
@@ -13,10 +14,6 @@ use Rattle.site_symmetry.proofs.Group.{space_of}
 -- the order is that of the site-symmetry group
 abbrev IsOrderAt : List Operator → Point → ℕ → Type 0
 IsOrderAt members x order = (site : List Map) → IsSiteList UNIT members x site → order ≡ length site
-
-factor_positive : (a b : ℕ) → 0 < a * b → 0 < a
-factor_positive zero b l = absurd (omega (arith, l))
-factor_positive (suc a) b l = omega arith
 
 quotient : (a b n : ℕ) → 0 < a → a * b ≡ n → n / a ≡ b
 quotient a b n l e = grind arith
@@ -34,7 +31,7 @@ module _ (members : List Operator) (x : Point) (order : ℕ) (group : IsGroup me
   pub some_order : 0 < order
   some_order =
       let o = some_orbit (space_of members group) x point in
-      factor_positive order (length o.0) (subst (λ n. 0 < n) (sym (product o.0 o.1)) some_member)
+      pos_of_dvd_of_pos (dvd-mul_right order (length o.0)) (subst (λ n. 0 < n) (sym (product o.0 o.1)) some_member)
 
   pub as_many : (orbit : List Point) → IsOrbitList UNIT members x orbit → length members / order ≡ length orbit
   as_many orbit o = quotient order (length orbit) (length members) some_order (product orbit o)

@@ -1,7 +1,7 @@
 -- A fraction divided by the greatest common divisor of its numbers is in lowest terms.
 use Rattle.std.proofs.Common.{◌≡◌, ℕ, ◌+◌, zero, suc, Bool, true, false, cond, eqb, ◌∷◌, ◌++◌, ◌^◌, length, decimal, length-append, lt_of_le_of_lt, ◌*◌, ◌/◌, ◌%◌, ◌<◌, ◌≤◌, inl, inr, sym, ap, ap₂, List, ℤ, pos, negsuc, ◌*ℤ◌, ◌<ℤ◌, unsigned_abs, subst, ◌∙◌, arith, refl}
 use Rattle.std.specs.Int.{IsGcd, ◌∣◌}
-use Rattle.std.proofs.Math.Nat.{one-dvd, pos_of_dvd_of_pos, div-mul_cancel, mul-dvd-mul_right, dvd_of_mul-dvd-mul_right, mul_assoc, mul_comm, mul-div_cancel_left, mul-mod_right, eq_of_mul-eq-mul_right, div-le_self}
+use Rattle.std.proofs.Math.Nat.{one-dvd, dvd-mul_right, pos_of_dvd_of_pos, div-mul_cancel, mul-dvd-mul_right, dvd_of_mul-dvd-mul_right, mul_assoc, mul_comm, mul-div_cancel_left, mul-mod_right, eq_of_mul-eq-mul_right, div-le_self}
 use Rattle.std.proofs.lemmas.Bool.Decides.{eqb_tells}
 use Rattle.std.proofs.lemmas.Fmt.{length-decimal-le_wide}
 use Rattle.std.proofs.lemmas.Nat.Gcd.{IsGcd-from_zero, IsGcd-from_mod, same_from_IsGcd, le_of_dvd, dvd_of_mod-eq-zero, mod-eq-zero_of_dvd}
@@ -56,10 +56,6 @@ coprime a b g n d some en ed h = (
 cross : (a b g n d : ℕ) → a * g ≡ n → b * g ≡ d → a * d ≡ n * b
 cross a b g n d en ed = rw (← en, ← ed) (sym (mul_assoc a b g) ∙ ap (λ (m : ℕ). m * g) (mul_comm a b) ∙ mul_assoc b a g ∙ mul_comm b (a * g))
 
-pos_of_mul_pos : (a b : ℕ) → 0 < a * b → 0 < a
-pos_of_mul_pos zero b l = absurd (omega arith)
-pos_of_mul_pos (suc a) b l = omega arith
-
 -- p over q is n over d in lowest terms
 pub record IsLowest (n d p q : ℕ) : Type 0 where
   pub coprime : IsGcd p q 1
@@ -70,7 +66,7 @@ lowest_by : (n d g : ℕ) → 0 < d → IsGcd n d g → IsLowest n d (n / g) (d 
 lowest_by n d g some h =
     let en : n / g * g ≡ n = div-mul_cancel g h.0 in
     let ed : d / g * g ≡ d = div-mul_cancel g h.1 in
-    record { coprime = coprime (n / g) (d / g) g n d (positive n d g some h) en ed h; same = cross (n / g) (d / g) g n d en ed; positive = pos_of_mul_pos (d / g) g (rw ed some) }
+    record { coprime = coprime (n / g) (d / g) g n d (positive n d g some h) en ed h; same = cross (n / g) (d / g) g n d en ed; positive = pos_of_dvd_of_pos (dvd-mul_right (d / g) g) (rw ed some) }
 
 pub is_lowest : (n d : ℕ) → 0 < d → IsLowest n d (n / gcd n d) (d / gcd n d)
 is_lowest n d some =
@@ -123,7 +119,7 @@ one_value n d m e pd pe same =
     let ep' : m / s.0 * s.0 ≡ m = div-mul_cancel s.0 s.1.0 in
     let gr : gcd n d ≡ r.0 = gcd_is n d r.0 pd r.1 in
     let gs : gcd m e ≡ s.0 = gcd_is m e s.0 pe s.1 in
-    let sq : 0 < q = pos_of_mul_pos q r.0 (rw eq pd) in
+    let sq : 0 < q = pos_of_dvd_of_pos (dvd-mul_right q r.0) (rw eq pd) in
     rw (gr, gs) (left_over (n / r.0) q (m / s.0) q' r.0 s.0 pr ps sq (rw (eq, eq') both) (rw (ep, ep', eq, eq') same))
 
 pub same_text : (n d m e : ℕ) → 0 < d → 0 < e → n * e ≡ m * d → fraction_text n d ≡ fraction_text m e

@@ -1,8 +1,8 @@
 ghost use Rattle.std.specs.Prelude.{◌≡◌, ℕ, ◌+◌, pos, ◌<ℤ◌, ◌<◌, ◌≤◌, ◌^◌, length};
-ghost use Rattle.std.specs.Int.{IsGcd};
 ghost use Rattle.triplet_text.specs.Fractions.{quotient_text, fraction_text, frac_text};
 
 use crate::text::Text;
+use exact_ops::greatest_common_divisor;
 use itoa::Buffer;
 
 /// The fraction n/d in lowest terms: `-` before a negative one, and a whole number where the denominator becomes 1.
@@ -29,20 +29,6 @@ pub fn lowest_terms(n: u128, d: u128) -> Text
 {
     let g = greatest_common_divisor(n, d);
     quotient(n / g, d / g)
-}
-
-/// By Euclid's algorithm.
-fn greatest_common_divisor(n: u128, d: u128) -> u128
-    ensures { IsGcd n d result }
-{
-    let mut a = n;
-    let mut b = d;
-    while b != 0 {
-        let rest = a % b;
-        a = b;
-        b = rest;
-    }
-    a
 }
 
 fn quotient(p: u128, q: u128) -> Text

@@ -1,10 +1,11 @@
 use Rattle.std.proofs.Common.{◌≡◌, ap, sym, subst, ◌∙◌, List, ℕ, ℤ, [], ◌∷◌, w64}
 use Rattle.lattice_algebra.proofs.Ring.{Expr, var, ◌⊖◌, ◌⊗◌, value}
 use Rattle.lattice_algebra.proofs.Machine.{IsWithin, fits, computed, computed-size, widened}
+use Rattle.exact_ops.specs.declared.TheConstants.{MAX_ENTRY}
 use Rattle.exact_ops.proofs.matrix.minor.Goals as goal
 
 abbrev bounds : List ℕ
-bounds = 2304 ∷ 2304 ∷ 2304 ∷ 2304 ∷ []
+bounds = MAX_ENTRY ∷ MAX_ENTRY ∷ MAX_ENTRY ∷ MAX_ENTRY ∷ []
 
 abbrev numbers : goal.After-from-d → List ℤ
 numbers c = c.from-a.result ∷ c.from-b.result ∷ c.from-c.result ∷ c.from-d.result ∷ []
@@ -16,7 +17,7 @@ same_numbers : (c : goal.After-from-d) → numbers c ≡ given c
 same_numbers c =
     let l = c.requires.left in
     let r = c.requires.right in
-    λ i. widened 2304 c.args.a c.from-a.ensures l.0 tt i ∷ widened 2304 c.args.b c.from-b.ensures l.1 tt i ∷ widened 2304 c.args.c c.from-c.ensures r.0 tt i ∷ widened 2304 c.args.d c.from-d.ensures r.1 tt i ∷ []
+    λ i. widened MAX_ENTRY c.args.a c.from-a.ensures l.0 tt i ∷ widened MAX_ENTRY c.args.b c.from-b.ensures l.1 tt i ∷ widened MAX_ENTRY c.args.c c.from-c.ensures r.0 tt i ∷ widened MAX_ENTRY c.args.d c.from-d.ensures r.1 tt i ∷ []
 
 within : (c : goal.After-from-d) → IsWithin bounds (numbers c)
 within c = let l = c.requires.left in let r = c.requires.right in subst (IsWithin bounds) (sym (same_numbers c)) (l.0, (l.1, (r.0, (r.1, tt))))

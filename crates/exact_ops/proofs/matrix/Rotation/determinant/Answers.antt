@@ -2,11 +2,12 @@ use Rattle.std.proofs.Common.{◌≡◌, ◌≤◌, ◌*◌, ◌^◌, ap, sym, s
 use Rattle.lattice_algebra.specs.Matrix.{det}
 use Rattle.lattice_algebra.proofs.Ring.{Expr, var, ◌⊕◌, ◌⊖◌, ◌⊗◌, value}
 use Rattle.lattice_algebra.proofs.Machine.{IsWithin, back, fits, computed, computed-size, kept, widened}
+use Rattle.exact_ops.specs.declared.TheConstants.{MAX_ENTRY}
 use Rattle.exact_ops.specs.Fields.{matrix_in}
 use Rattle.exact_ops.proofs.matrix.Rotation.determinant.Goals as goal
 
 abbrev bounds : List ℕ
-bounds = 2304 ∷ 2304 ∷ 2304 ∷ (2 * 2304 ^ 2) ∷ (2 * 2304 ^ 2) ∷ (2 * 2304 ^ 2) ∷ []
+bounds = MAX_ENTRY ∷ MAX_ENTRY ∷ MAX_ENTRY ∷ (2 * MAX_ENTRY ^ 2) ∷ (2 * MAX_ENTRY ^ 2) ∷ (2 * MAX_ENTRY ^ 2) ∷ []
 
 abbrev numbers : goal.After-from-c → List ℤ
 numbers c = c.from-a.result ∷ c.from-b.result ∷ c.from-c.result ∷ c.minor-x.result ∷ c.minor-y.result ∷ c.minor-z.result ∷ []
@@ -18,8 +19,8 @@ abbrev of_matrix : goal.After-from-c → List ℤ
 of_matrix c = let m = matrix_in c.args.self.now in m.xx ∷ m.xy ∷ m.xz ∷ minor m.yy m.zz m.yz m.zy ∷ minor m.yx m.zz m.yz m.zx ∷ minor m.yx m.zy m.yy m.zx ∷ []
 
 -- a minor of entries that were passed on
-minor_is : (r a b c d : ℤ) → unsigned_abs a ≤ 2304 → unsigned_abs b ≤ 2304 → unsigned_abs c ≤ 2304 → unsigned_abs d ≤ 2304 → r ≡ minor (back w32 a) (back w32 b) (back w32 c) (back w32 d) → r ≡ minor a b c d
-minor_is r a b c d p q s t e = e ∙ λ i. minor (kept w32 2304 a p tt i) (kept w32 2304 b q tt i) (kept w32 2304 c s tt i) (kept w32 2304 d t tt i)
+minor_is : (r a b c d : ℤ) → unsigned_abs a ≤ MAX_ENTRY → unsigned_abs b ≤ MAX_ENTRY → unsigned_abs c ≤ MAX_ENTRY → unsigned_abs d ≤ MAX_ENTRY → r ≡ minor (back w32 a) (back w32 b) (back w32 c) (back w32 d) → r ≡ minor a b c d
+minor_is r a b c d p q s t e = e ∙ λ i. minor (kept w32 MAX_ENTRY a p tt i) (kept w32 MAX_ENTRY b q tt i) (kept w32 MAX_ENTRY c s tt i) (kept w32 MAX_ENTRY d t tt i)
 
 same_numbers : (c : goal.After-from-c) → numbers c ≡ of_matrix c
 same_numbers c =
@@ -27,20 +28,20 @@ same_numbers c =
     let y = c.requires.y in
     let z = c.requires.z in
     let m = matrix_in c.args.self.now in
-    λ i. widened 2304 m.xx c.from-a.ensures x.first tt i ∷ widened 2304 m.xy c.from-b.ensures x.second tt i ∷ widened 2304 m.xz c.from-c.ensures x.third tt i
+    λ i. widened MAX_ENTRY m.xx c.from-a.ensures x.first tt i ∷ widened MAX_ENTRY m.xy c.from-b.ensures x.second tt i ∷ widened MAX_ENTRY m.xz c.from-c.ensures x.third tt i
     ∷ minor_is _ m.yy m.zz m.yz m.zy y.second z.third y.third z.second c.minor-x.ensures.value i
     ∷ minor_is _ m.yx m.zz m.yz m.zx y.first z.third y.third z.first c.minor-y.ensures.value i
     ∷ minor_is _ m.yx m.zy m.yy m.zx y.first z.second y.second z.first c.minor-z.ensures.value i ∷ []
 
-entry_size : (x y : ℤ) → x ≡ y → unsigned_abs y ≤ 2304 → unsigned_abs x ≤ 2304
-entry_size x y e h = subst (λ v. unsigned_abs v ≤ 2304) (sym e) h
+entry_size : (x y : ℤ) → x ≡ y → unsigned_abs y ≤ MAX_ENTRY → unsigned_abs x ≤ MAX_ENTRY
+entry_size x y e h = subst (λ v. unsigned_abs v ≤ MAX_ENTRY) (sym e) h
 
 within : (c : goal.After-from-c) → IsWithin bounds (numbers c)
 within c =
     let x = c.requires.x in
     let m = matrix_in c.args.self.now in (
-      entry_size _ m.xx (widened 2304 m.xx c.from-a.ensures x.first tt) x.first,
-      (entry_size _ m.xy (widened 2304 m.xy c.from-b.ensures x.second tt) x.second, (entry_size _ m.xz (widened 2304 m.xz c.from-c.ensures x.third tt) x.third, (c.minor-x.ensures.size, (c.minor-y.ensures.size, (c.minor-z.ensures.size, tt))))),
+      entry_size _ m.xx (widened MAX_ENTRY m.xx c.from-a.ensures x.first tt) x.first,
+      (entry_size _ m.xy (widened MAX_ENTRY m.xy c.from-b.ensures x.second tt) x.second, (entry_size _ m.xz (widened MAX_ENTRY m.xz c.from-c.ensures x.third tt) x.third, (c.minor-x.ensures.size, (c.minor-y.ensures.size, (c.minor-z.ensures.size, tt))))),
     )
 
 abbrev first : Expr

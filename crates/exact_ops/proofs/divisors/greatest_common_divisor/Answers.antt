@@ -1,5 +1,5 @@
 use Rattle.std.proofs.lemmas.Nat.Gcd.{IsGcd-from_mod, IsGcd-from_zero}
-use Rattle.triplet_text.proofs.fraction.greatest_common_divisor.Goals as goal
+use Rattle.exact_ops.proofs.divisors.greatest_common_divisor.Goals as goal
 
 pub loop-b-preserved : goal.loop-b-preserved
 loop-b-preserved c = λ g h. c.loop-b.invariant g (IsGcd-from_mod _ _ g h)

@@ -1,6 +1,6 @@
 use Rattle.std.proofs.Common.{ℕ}
 use Rattle.std.specs.Int.{IsGcd}
-use Rattle.op_types.proofs.vector.greatest_common_divisor.Given as goal
+use Rattle.exact_ops.proofs.divisors.greatest_common_divisor.Given as goal
 
 abbrev pub invariant-loop-b : goal.invariant-loop-b
 invariant-loop-b l = (g : ℕ) → IsGcd l.a l.b g → IsGcd l.fn.n l.fn.d g
