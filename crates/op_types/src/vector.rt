@@ -108,10 +108,8 @@ impl Vector {
         ensures divides { Divides result (column_in self.now) }
         ensures greatest { (d : ℤ) → Divides d (column_in self.now) → unsigned_abs d ∣ unsigned_abs result }
     {
-        let x = u128::from(self.x.unsigned_abs());
-        let y = u128::from(self.y.unsigned_abs());
-        let z = u128::from(self.z.unsigned_abs());
-        greatest_common_divisor(x, greatest_common_divisor(y, z)) as i32
+        let rest = greatest_common_divisor(size(self.y), size(self.z));
+        greatest_common_divisor(size(self.x), rest) as i32
     }
 }
 
@@ -132,4 +130,10 @@ fn quotient(n: i32, divisor: i32) -> i32
     ensures { n ≡ divisor *ℤ result }
 {
     n / divisor
+}
+
+fn size(n: i32) -> u128
+    ensures { result ≡ unsigned_abs n }
+{
+    u128::from(n.unsigned_abs())
 }

@@ -9,7 +9,7 @@ use Rattle.op_types.proofs.vector.Vector.common_divisor.Goals as goal
 
 divisor : (c : goal.After-greatest_common_divisor) → IsDivisorOf (column_in c.args.self.now) c.greatest_common_divisor.result
 divisor c =
-    divisor_of (column_in c.args.self.now) _ _ _ _ _ c.requires.some c.requires.within c.unsigned_abs.ensures.value c.unsigned_abs-2.ensures.value c.unsigned_abs-3.ensures.value c.greatest_common_divisor-rest.ensures c.greatest_common_divisor.ensures
+    divisor_of (column_in c.args.self.now) _ _ _ _ _ c.requires.some c.requires.within c.size.ensures c.size-2.ensures c.size-3.ensures c.greatest_common_divisor-rest.ensures c.greatest_common_divisor.ensures
 
 fits : (g : ℕ) → g ≤ 2 * MAX_OPERATORS → FitsSigned w32 (pos g)
 fits g l = omega (arith, ints)
