@@ -1,5 +1,5 @@
 -- The number of points of an orbit as a quotient.
-use Rattle.std.proofs.Common.{◌≡◌, ◌<◌, ◌*◌, ◌/◌, ℕ, zero, suc, List, length, arith, ap, sym, ◌∙◌, subst}
+use Rattle.std.proofs.Common.{◌≡◌, ◌<◌, ◌*◌, ◌/◌, ℕ, List, length, arith, ap, sym, ◌∙◌, subst}
 use Rattle.std.proofs.Math.Nat.{dvd-mul_right, pos_of_dvd_of_pos}
 use Rattle.std.proofs.lemmas.Option.{slice_get_within}
 use Rattle.lattice_algebra.specs.Operator.{Operator, identity_operator}
