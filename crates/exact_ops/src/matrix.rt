@@ -7,7 +7,8 @@ ghost use Rattle.exact_ops.specs.Fields.{matrix_in, column_in};
 
 use crate::UNIT;
 
-/// The entries of a matrix: `xy` stands in the row x and the column y.
+/// The rotation part of an operator, and what is computed on the way to one: any matrix of whole numbers. The entry `xy` stands
+/// in the row x and the column y.
 #[derive(Clone, Copy, PartialEq, Eq, Debug, Drop)]
 pub struct Rotation {
     pub xx: i32,
@@ -21,7 +22,7 @@ pub struct Rotation {
     pub zz: i32,
 }
 
-/// A column, in parts of a cell.
+/// The translation part of an operator, in parts of a cell.
 #[derive(Clone, Copy, PartialEq, Eq, Debug, Drop)]
 pub struct Translation {
     pub x: i32,
@@ -240,7 +241,7 @@ fn dot(a: i32, b: i32, c: i32, x: i32, y: i32, z: i32) -> i32
     requires right { AreWithin (UNIT - 1) x y z }
     ensures value { result ≡ sum_of_products a b c x y z }
     ensures size { unsigned_abs result ≤ 6 * (UNIT - 1) }
-    ensures entry_size { AreWithin 2 x y z → unsigned_abs result ≤ 12 }
+    ensures entry_size { AreWithin 2 x y z → unsigned_abs result ≤ 3 * 2 ^ 2 }
 {
     a * x + b * y + c * z
 }

@@ -17,7 +17,7 @@ use Rattle.exact_ops.proofs.Narrow.{some_parts}
 use Rattle.group_closure.specs.declared.TheConstants.{MAX_OPERATORS}
 use Rattle.group_closure.specs.Words.{Span, AreDistinct, IsUnclosed}
 use Rattle.group_closure.specs.Steps.{Adds, Extends, AreGenerators, IsPartial, HasProducts, IsGenerated}
-use Rattle.group_closure.proofs.Bundle.{cell_operators}
+use Rattle.group_closure.proofs.CellOperators.{cell_operators}
 use Rattle.group_closure.proofs.Lists.{are_operators}
 
 -- ---- one more operator

@@ -1,4 +1,4 @@
-pub mod Bundle
+pub mod CellOperators
 pub mod Ordered
 pub mod Lists
 mod Growing

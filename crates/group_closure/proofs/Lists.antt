@@ -16,7 +16,7 @@ use Rattle.group_closure.specs.Order.{operator_cmp}
 use Rattle.group_closure.specs.Words.{IsLetter, Span, Closes, AreDistinct, IsUnclosed}
 use Rattle.group_closure.specs.GroupList.{IsGroupList, IsGroup}
 use Rattle.group_closure.specs.Steps.{AreGenerators, IsGenerated}
-use Rattle.group_closure.proofs.Bundle.{cell_operators}
+use Rattle.group_closure.proofs.CellOperators.{cell_operators}
 use Rattle.finite_groups.proofs.Ordered.{one_order_after, strict_from_sorted}
 use Rattle.group_closure.proofs.Ordered.{operator_cmp_total, operator_ties}
 

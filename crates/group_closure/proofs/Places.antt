@@ -12,7 +12,7 @@ use Rattle.exact_ops.specs.Narrow.{IsNarrow}
 use Rattle.exact_ops.specs.declared.TheConstants.{UNIT}
 use Rattle.group_closure.specs.Words.{AreDistinct}
 use Rattle.group_closure.specs.GroupList.{IsGroup}
-use Rattle.group_closure.proofs.Bundle.{cell_operators}
+use Rattle.group_closure.proofs.CellOperators.{cell_operators}
 use Rattle.group_closure.proofs.Lists.{closed_list}
 
 -- ---- one member, one place

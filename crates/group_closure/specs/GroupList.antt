@@ -16,7 +16,7 @@ pub record IsGroupList (list members : List Operator) : Type 0 where
   pub distinct : AreDistinct members
   pub sorted : IsStrictlySortedBy operator_cmp (drop 1 members)
 
--- a group modulo the cell, in order: the identity first, each member once, the product of each two, at most 192 members,
+-- a group modulo the cell, in order: the identity first, each member once, the product of each two, at most MAX_OPERATORS members,
 -- and none with an entry beyond 2
 pub record IsGroup (members : List Operator) : Type 0 where
   pub first : slice_get members 0 ≡ Some identity_operator

@@ -33,7 +33,7 @@ pub record IsPartial (generators members : List Operator) : Type 0 where
 abbrev pub HasProducts : List Operator → Operator → List Operator → Type 0
 HasProducts generators f members = All (λ g. Contains members (product UNIT f g)) generators
 
--- all members of Span, at most 192, each once and narrow, the identity first
+-- all members of Span, at most MAX_OPERATORS, each once and narrow, the identity first
 pub record IsGenerated (generators members : List Operator) : Type 0 where
   pub first : slice_get members 0 ≡ Some identity_operator
   pub span : (f : Operator) → Contains members f ↔ Span generators f

@@ -18,7 +18,7 @@ value word = fold (product UNIT) identity_operator word
 abbrev pub Span : List Operator → Operator → Type 0
 Span list f = (word : List Operator) × All (IsLetter list) word × (value word ≡ f)
 
--- a list closes where some list of at most 192 operators holds the value of every word, and every value has entries within 2
+-- a list closes where some list of at most MAX_OPERATORS operators holds the value of every word, and every value has entries within 2
 abbrev pub Closes : List Operator → Type 0
 Closes list = (xs : List Operator) × (length xs ≤ MAX_OPERATORS) × ((f : Operator) → Span list f → Contains xs f) × ((f : Operator) → Span list f → HasEntriesWithin 2 f.w)
 
@@ -26,7 +26,7 @@ Closes list = (xs : List Operator) × (length xs ≤ MAX_OPERATORS) × ((f : Ope
 abbrev pub AreDistinct : List Operator → Type 0
 AreDistinct ops = AllPairs (λ f g. f ≢ g) ops
 
--- more than 192 operators of Span, no two the same
+-- more than MAX_OPERATORS operators of Span, no two the same
 pub record AreTooMany (list many : List Operator) : Type 0 where
   pub spanned : All (Span list) many
   pub distinct : AreDistinct many
@@ -37,6 +37,6 @@ pub record IsTooWide (list : List Operator) (f : Operator) : Type 0 where
   pub spanned : Span list f
   pub wide : ¬ HasEntriesWithin 2 f.w
 
--- Span has more than 192 members, or a member with an entry beyond 2
+-- Span has more than MAX_OPERATORS members, or a member with an entry beyond 2
 abbrev pub IsUnclosed : List Operator → Type 0
 IsUnclosed list = ((many : List Operator) × AreTooMany list many) ⊎ ((f : Operator) × IsTooWide list f)

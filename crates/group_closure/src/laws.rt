@@ -1,9 +1,11 @@
 ghost use Rattle.std.specs.Prelude.{◌≡◌, ◌≤◌, ◌↔◌, List, length};
+ghost use Rattle.std.specs.Int.{◌∣◌};
 ghost use Rattle.std.specs.List.{All, Contains};
-ghost use Rattle.lattice_algebra.specs.Operator.{Operator};
+ghost use Rattle.lattice_algebra.specs.Operator.{Operator, product};
+ghost use Rattle.exact_ops.specs.declared.TheConstants.{UNIT};
 ghost use Rattle.exact_ops.specs.Narrow.{IsNarrow};
-ghost use Rattle.group_closure.specs.Words.{Closes, IsUnclosed};
-ghost use Rattle.group_closure.specs.GroupList.{IsGroupList};
+ghost use Rattle.group_closure.specs.Words.{AreDistinct, Closes, IsUnclosed};
+ghost use Rattle.group_closure.specs.GroupList.{IsGroup, IsGroupList};
 
 use crate::MAX_OPERATORS;
 
@@ -25,4 +27,13 @@ pub fn short_narrow_list_closes()
 /// No list is both: one that `Group::close` refuses as `Unclosed` does not close.
 pub fn unclosed_never_closes()
     ensures { (list : List Operator) → IsUnclosed list → ¬ Closes list }
+{}
+
+/// Lagrange's theorem: a list of members of a group, at least one, each once, that has the product of each two of its own, has
+/// a length that divides the number of members.
+pub fn members_of_a_subgroup_divide()
+    ensures { (members part : List Operator) (some : Operator) → IsGroup members → AreDistinct part → Contains part some
+        → ((f : Operator) → Contains part f → Contains members f)
+        → ((f g : Operator) → Contains part f → Contains part g → Contains part (product UNIT f g))
+        → length part ∣ length members }
 {}

@@ -9,9 +9,13 @@ mod order;
 
 pub use group::{CloseFault, Group};
 pub use laws::{
-    one_group_list, same_members_same_list, short_narrow_list_closes, unclosed_never_closes,
+    members_of_a_subgroup_divide, one_group_list, same_members_same_list, short_narrow_list_closes,
+    unclosed_never_closes,
 };
 
 /// The most members that a group may have. In a conventional cell a space group has at most 48 rotation parts, each with at most
 /// four translations, those of a face-centred lattice.
 pub const MAX_OPERATORS: usize = 192;
+
+#[cfg(test)]
+mod tests;

@@ -8,7 +8,7 @@ use Rattle.exact_ops.specs.Narrow.{IsNarrow}
 use Rattle.exact_ops.specs.declared.TheConstants.{UNIT}
 use Rattle.exact_ops.proofs.Narrow.{AreWithin-parts}
 use Rattle.group_closure.specs.declared.TheConstants.{MAX_OPERATORS}
-use Rattle.op_types.specs.Intrinsic.{IsIntrinsicPart}
+use Rattle.op_types.specs.IntrinsicPart.{IsIntrinsicPart}
 
 pub denominator : (k : ℕ) (x : ℤ) → x ≡ pos k → k ≤ MAX_OPERATORS → to_z w32 (of_z w32 (pos UNIT *ℤ to_z w32 (of_z w32 x))) ≡ pos (UNIT * k)
 denominator k x e l = omega (arith, ints)

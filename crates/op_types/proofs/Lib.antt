@@ -1,4 +1,4 @@
-mod Turning
+mod Cycles
 mod Members
 mod SmallPowers
 mod Orders
@@ -8,4 +8,4 @@ mod Divisors
 mod FixedColumns
 pub mod OneType
 pub mod SomeType
-mod Repeats
+mod PowersOfOperations

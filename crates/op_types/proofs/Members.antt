@@ -9,7 +9,7 @@ use Rattle.finite_groups.proofs.Powers as powers
 use Rattle.exact_ops.specs.Narrow.{IsNarrow}
 use Rattle.exact_ops.specs.declared.TheConstants.{UNIT}
 use Rattle.group_closure.specs.GroupList.{IsGroup}
-use Rattle.group_closure.proofs.Bundle.{cell_operators}
+use Rattle.group_closure.proofs.CellOperators.{cell_operators}
 use Rattle.group_closure.proofs.Lists.{closed_list}
 use Rattle.op_types.specs.ProperPart.{IsProperPart}
 

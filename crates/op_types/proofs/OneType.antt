@@ -10,7 +10,7 @@ use Rattle.lattice_algebra.proofs.Columns.{swap_times, times-times}
 use Rattle.lattice_algebra.proofs.MatrixRing.{column_at, sym_times, sym_origin, column_ring}
 use Rattle.exact_ops.specs.declared.TheConstants.{UNIT}
 use Rattle.op_types.specs.ProperPart.{IsProperPart, opposite}
-use Rattle.op_types.specs.Intrinsic.{IsIntrinsicPart}
+use Rattle.op_types.specs.IntrinsicPart.{IsIntrinsicPart}
 use Rattle.op_types.specs.Axis.{IsAxis, IsDirected, HasNoDivisor}
 use Rattle.op_types.specs.Types.{OperationType, HasAxis, IsTypeOf}
 use Rattle.op_types.proofs.Members.{proper_or_not}

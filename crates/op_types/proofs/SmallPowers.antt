@@ -1,4 +1,4 @@
--- The matrices of the members of a group, and their proper parts, have small powers, and one of the first 192 returns.
+-- The matrices of the members of a group, and their proper parts, have small powers, and one of the first MAX_OPERATORS returns.
 use Rattle.std.proofs.Common.{◌≡◌, ◌<◌, ℕ, List, length, ⊎_elim, sym, subst, Contains, Some, slice_get}
 use Rattle.std.proofs.lemmas.Option.{slice_get_within}
 use Rattle.std.proofs.lemmas.List.Elements.{All-contains}
@@ -9,7 +9,7 @@ use Rattle.lattice_algebra.proofs.Powers.{power-opposite, within-opposite}
 use Rattle.exact_ops.specs.Narrow.{IsNarrow}
 use Rattle.group_closure.specs.GroupList.{IsGroup}
 use Rattle.group_closure.proofs.Places.{contains_at}
-use Rattle.op_types.specs.Cycle.{HasSmallPowers}
+use Rattle.op_types.specs.SmallPowers.{HasSmallPowers}
 use Rattle.op_types.specs.ProperPart.{IsProperPart, opposite}
 use Rattle.op_types.proofs.Members.{narrow_member, power-length, proper_or_not}
 use Rattle.op_types.proofs.Orders.{proper_power}

@@ -12,10 +12,10 @@ use Rattle.lattice_algebra.proofs.Equality.{matrix_eq, matrix_eq-is}
 use Rattle.exact_ops.specs.declared.TheConstants.{UNIT}
 use Rattle.group_closure.specs.GroupList.{IsGroup}
 use Rattle.op_types.specs.ProperPart.{IsProper, IsProperPart, opposite}
-use Rattle.op_types.specs.Intrinsic.{IsIntrinsicPart}
+use Rattle.op_types.specs.IntrinsicPart.{IsIntrinsicPart}
 use Rattle.op_types.specs.Axis.{IsAlong, IsAxis, IsDirected}
 use Rattle.op_types.specs.Types.{OperationType, HasAxis, IsTypeOf}
-use Rattle.op_types.specs.Cycle.{HasSmallPowers}
+use Rattle.op_types.specs.SmallPowers.{HasSmallPowers}
 use Rattle.op_types.specs.Vector.{AreParallel, IsImage, x_column_of, y_column_of, z_column_of}
 use Rattle.op_types.proofs.Members.{proper_or_not}
 use Rattle.op_types.proofs.SmallPowers.{small_powers, small_part}

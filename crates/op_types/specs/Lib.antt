@@ -2,8 +2,8 @@ pub use Rattle.lattice_algebra.specs.Matrix
 pub use Rattle.lattice_algebra.specs.Operator
 pub use Rattle.lattice_algebra.specs.Powers
 pub mod ProperPart
-pub mod Intrinsic
+pub mod IntrinsicPart
 pub mod Axis
 pub mod Types
-pub mod Cycle
+pub mod SmallPowers
 pub mod Vector

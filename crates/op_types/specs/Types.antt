@@ -4,7 +4,7 @@ use Rattle.lattice_algebra.specs.Matrix.{Matrix, Column}
 use Rattle.lattice_algebra.specs.Operator.{Operator}
 use Rattle.lattice_algebra.specs.Powers.{IsOrder}
 use Rattle.op_types.specs.ProperPart.{IsProper, IsProperPart}
-use Rattle.op_types.specs.Intrinsic.{IsIntrinsicPart}
+use Rattle.op_types.specs.IntrinsicPart.{IsIntrinsicPart}
 use Rattle.op_types.specs.Axis.{IsLine, IsAxis}
 
 -- the kind of an operation, its intrinsic part as three fractions with one denominator, and its axis

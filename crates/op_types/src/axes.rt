@@ -8,7 +8,7 @@ ghost use Rattle.op_types.specs.Axis.{IsLine, IsAxis};
 ghost use Rattle.op_types.specs.Vector.{column_in, AreParallel, IsImage, x_column_of, y_column_of, z_column_of};
 
 use crate::cycle::cycle_of;
-use crate::handedness::proper_part;
+use crate::proper_part::proper_part;
 use crate::vector::Vector;
 use exact_ops::Rotation;
 use group_closure::Group;

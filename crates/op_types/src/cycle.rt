@@ -4,7 +4,7 @@ ghost use Rattle.lattice_algebra.specs.Operator.{HasEntriesWithin};
 ghost use Rattle.lattice_algebra.specs.Powers.{IsOrder, sum_of_powers};
 ghost use Rattle.exact_ops.specs.Fields.{matrix_in};
 ghost use Rattle.group_closure.specs.declared.TheConstants.{MAX_OPERATORS};
-ghost use Rattle.op_types.specs.Cycle.{HasSmallPowers};
+ghost use Rattle.op_types.specs.SmallPowers.{HasSmallPowers};
 
 use exact_ops::Rotation;
 

@@ -4,7 +4,7 @@ ghost use Rattle.lattice_algebra.specs.Operator.{Operator, AreWithin, HasEntries
 ghost use Rattle.exact_ops.specs.declared.TheConstants.{UNIT as PARTS};
 ghost use Rattle.exact_ops.specs.Fields.{matrix_in};
 ghost use Rattle.group_closure.specs.declared.TheConstants.{MAX_OPERATORS};
-ghost use Rattle.op_types.specs.Intrinsic.{IsIntrinsicPart};
+ghost use Rattle.op_types.specs.IntrinsicPart.{IsIntrinsicPart};
 ghost use Rattle.op_types.specs.Vector.{column_in};
 
 use crate::cycle::cycle_of;

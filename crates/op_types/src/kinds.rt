@@ -5,7 +5,7 @@ ghost use Rattle.lattice_algebra.specs.Powers.{IsOrder};
 ghost use Rattle.op_types.specs.ProperPart.{IsProper, IsProperPart};
 
 use crate::cycle::cycle_of;
-use crate::handedness::{is_proper, proper_part};
+use crate::proper_part::{is_proper, proper_part};
 use crate::parts::Kind;
 use exact_ops::Rotation;
 use group_closure::Group;

@@ -7,7 +7,7 @@ ghost use Rattle.lattice_algebra.specs.Map.{map_of};
 ghost use Rattle.lattice_algebra.specs.Powers.{IsOrder};
 ghost use Rattle.exact_ops.specs.declared.TheConstants.{UNIT};
 ghost use Rattle.group_closure.specs.GroupList.{IsGroup};
-ghost use Rattle.op_types.specs.Intrinsic.{IsIntrinsicPart, repeated};
+ghost use Rattle.op_types.specs.IntrinsicPart.{IsIntrinsicPart, repeated};
 ghost use Rattle.op_types.specs.ProperPart.{IsProperPart};
 
 /// The order of the rotation part W of a member divides the order of the group: its number of members.

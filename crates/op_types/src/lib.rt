@@ -6,7 +6,7 @@
 
 mod axes;
 mod cycle;
-mod handedness;
+mod proper_part;
 mod intrinsic_part;
 mod kinds;
 mod laws;

@@ -9,7 +9,7 @@ use Rattle.exact_ops.specs.declared.TheConstants.{UNIT}
 use Rattle.group_closure.specs.GroupList.{IsGroup}
 use Rattle.space_groups.specs.Lists.{IsSiteList, IsOrbitList}
 use Rattle.space_groups.proofs.Laws.{order_times_multiplicity, some_site, some_orbit}
-use Rattle.site_symmetry.proofs.Group.{space_of}
+use Rattle.site_symmetry.proofs.SpaceOfGroup.{space_of}
 
 -- the order is that of the site-symmetry group
 abbrev IsOrderAt : List Operator → Point → ℕ → Type 0

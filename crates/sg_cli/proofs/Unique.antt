@@ -11,7 +11,7 @@ use Rattle.group_closure.specs.Words.{IsUnclosed}
 use Rattle.group_closure.specs.GroupList.{IsGroupList}
 use Rattle.group_closure.specs.GroupList.{IsGroup}
 use Rattle.group_closure.proofs.Lists.{one_list, not_closing, group_of_closing}
-use Rattle.site_symmetry.proofs.Listed.{one_ordered_site}
+use Rattle.site_symmetry.proofs.FixingLists.{one_ordered_site}
 use Rattle.orbit_map.proofs.OrbitLists.{one_orbit}
 use Rattle.table_print.specs.Sites.{IsSiteText}
 use Rattle.table_print.proofs.SiteTexts as texts

@@ -1,6 +1,6 @@
 pub mod Answer
 pub mod Fault
 pub mod Run
-pub mod Seen
-pub mod Serve
+pub mod Streams
+pub mod Steps
 pub mod Words

@@ -3,9 +3,10 @@ use Rattle.std.specs.Prelude.{◌≡◌, ◌≢◌, ◌⊎◌, ◌==◌, if◌th
 use Rattle.std.specs.Io.KnownBytes.{Appends}
 use Rattle.sg_io.specs.Count.{Rose}
 use Rattle.sg_io.specs.Bytes.{AppendsFront}
+use Rattle.table_print.specs.Lines.{SomeText}
 use Rattle.sg_cli.specs.declared.fault.Fault.{Fault}
 use Rattle.sg_cli.specs.Answer.{Answer, Printed, Refused, IsAnswer, status_of_answer}
-use Rattle.sg_cli.specs.Seen.{SeenSink}
+use Rattle.sg_cli.specs.Streams.{SeenSink}
 
 -- the words and the bytes decide this status: it is neither a fault of reading or writing nor want of memory
 abbrev pub IsDecided : ℕ → Type 0
@@ -33,7 +34,7 @@ IfRefused words left fault = IfSome left (λ bytes. IsAnswer words bytes (Refuse
 
 -- where the bytes are told, the answer is a text with this property
 abbrev pub IfPrinted : List (List ℕ) → Option (List ℕ) → (List ℕ → Type 0) → Type 0
-IfPrinted words left IsSuch = IfSome left (λ bytes. (text : List ℕ) × IsAnswer words bytes (Printed text) × IsSuch text)
+IfPrinted words left IsSuch = IfSome left (λ bytes. SomeText (λ text. IsAnswer words bytes (Printed text)) IsSuch)
 
 -- where the bytes are told and the answer is a text, the output grew by it and the status is 0, or memory was wanted
 abbrev pub Completes : List (List ℕ) → Option (List ℕ) → Option (List ℕ) → Option (List ℕ) → ℕ → Type 0

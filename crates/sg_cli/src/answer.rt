@@ -7,7 +7,7 @@ ghost use Rattle.sg_cli.specs.declared.fault.Fault.{Fault};
 ghost use Rattle.sg_cli.specs.Answer.{Answer, IsAnswer, IsTextFor};
 ghost use Rattle.sg_cli.specs.Fault.{status_of, text_of};
 ghost use Rattle.sg_cli.specs.Run.{IsDecided, IsRefusal, IsReadToEnd, before_writing, HasStatus, IfPrinted, IfRefused, IsTold, Completes};
-ghost use Rattle.sg_cli.specs.Serve.{Prints, Answers, Serves};
+ghost use Rattle.sg_cli.specs.Steps.{Prints, Answers, Serves};
 ghost use Rattle.sg_cli.specs.Words.{IsNoCommand, texts};
 
 use crate::MAX_INPUT;

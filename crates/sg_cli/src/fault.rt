@@ -21,7 +21,7 @@ pub enum Fault {
     Unreadable(u32),
     /// The first bad line has this number, and is a triplet whose matrix has no whole inverse.
     NotUnimodular(u32),
-    /// The operators generate more than 192, or one with an entry outside -2..=2.
+    /// The operators generate more than `MAX_OPERATORS`, or one with an entry outside -2..=2.
     Unclosed,
     /// The output could not be written.
     Writing,

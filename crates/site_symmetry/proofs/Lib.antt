@@ -1,3 +1,3 @@
-pub mod Group
+pub mod SpaceOfGroup
 pub mod Shifts
-pub mod Listed
+pub mod FixingLists

@@ -1,11 +1,9 @@
-ghost use Rattle.std.specs.Prelude.{◌≡◌, ◌↔◌, List, length};
-ghost use Rattle.std.specs.Int.{◌∣◌};
+ghost use Rattle.std.specs.Prelude.{◌≡◌, ◌↔◌, List};
 ghost use Rattle.std.specs.List.{Contains};
-ghost use Rattle.lattice_algebra.specs.Operator.{Operator, product};
+ghost use Rattle.lattice_algebra.specs.Operator.{Operator};
 ghost use Rattle.lattice_algebra.specs.Map.{Map, ◌∘◌, AreInverse};
 ghost use Rattle.lattice_algebra.specs.Point.{Point, IsPoint, image};
 ghost use Rattle.exact_ops.specs.declared.TheConstants.{UNIT};
-ghost use Rattle.group_closure.specs.Words.{AreDistinct};
 ghost use Rattle.group_closure.specs.GroupList.{IsGroup};
 ghost use Rattle.space_groups.specs.Space.{IsElement, IsInSite, AreConjugate, HaveSameElement};
 ghost use Rattle.site_symmetry.specs.OrderedSite.{IsOrderedSite};
@@ -30,21 +28,12 @@ pub fn conjugate_by_members()
         × ((f : Operator) → Contains members f → HaveSameElement UNIT members f (image UNIT g x) y))) }
 {}
 
-/// Lagrange's theorem: a list of members of a group, at least one, each once, that has the product of each two of its own, has
-/// a length that divides the number of members.
-pub fn members_of_a_subgroup_divide()
-    ensures { (members part : List Operator) (some : Operator) → IsGroup members → AreDistinct part → Contains part some
-        → ((f : Operator) → Contains part f → Contains members f)
-        → ((f g : Operator) → Contains part f → Contains part g → Contains part (product UNIT f g))
-        → length part ∣ length members }
-{}
-
 /// Each rational point has a list of its site-symmetry group, in the order of the operators.
 pub fn site_of_point()
     ensures { (members : List Operator) (x : Point) → IsGroup members → IsPoint x → (site : List Map) × IsOrderedSite members x site }
 {}
 
-/// It has one such list only.
+/// A rational point has one ordered list of its site-symmetry group only.
 pub fn one_ordered_site()
     ensures { (members : List Operator) (x : Point) (a b : List Map) → IsGroup members → IsPoint x → IsOrderedSite members x a → IsOrderedSite members x b → a ≡ b }
 {}

@@ -9,8 +9,7 @@ mod sites;
 
 pub use fixing::{fixes, order_at};
 pub use laws::{
-    conjugate_by_members, members_of_a_subgroup_divide, one_element_of_a_rotation,
-    one_ordered_site, site_of_image, site_of_point,
+    conjugate_by_members, one_element_of_a_rotation, one_ordered_site, site_of_image, site_of_point,
 };
 pub use sites::site;
 

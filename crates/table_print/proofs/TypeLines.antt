@@ -8,7 +8,7 @@ use Rattle.lattice_algebra.specs.Matrix.{Matrix, Column, column_of, times}
 use Rattle.lattice_algebra.specs.Powers.{IsOrder}
 use Rattle.group_closure.specs.GroupList.{IsGroup}
 use Rattle.op_types.specs.ProperPart.{IsProper, IsProperPart}
-use Rattle.op_types.specs.Intrinsic.{IsIntrinsicPart}
+use Rattle.op_types.specs.IntrinsicPart.{IsIntrinsicPart}
 use Rattle.op_types.specs.Axis.{IsLine, IsAxis}
 use Rattle.op_types.specs.Types.{OperationType, IsTypeOf, HasAxis}
 use Rattle.op_types.proofs.OneType.{one_type}

@@ -5,7 +5,7 @@ use Rattle.lattice_algebra.specs.Operator.{HasEntriesWithin}
 use Rattle.lattice_algebra.proofs.Equality.{matrix_eq-is}
 use Rattle.lattice_algebra.proofs.Powers.{power-one}
 use Rattle.exact_ops.specs.Fields.{matrix_in}
-use Rattle.op_types.proofs.Turning.{turned_none, turned_more, turned_order, next_sum, turned_size}
+use Rattle.op_types.proofs.Cycles.{turned_none, turned_more, turned_order, next_sum, turned_size}
 use Rattle.op_types.proofs.cycle.cycle_of.Goals as goal
 
 pub loop-power-init : goal.loop-power-init

@@ -1,7 +1,7 @@
 use Rattle.std.proofs.Common.{◌-◌}
 use Rattle.exact_ops.specs.Fields.{matrix_in}
 use Rattle.group_closure.specs.declared.TheConstants.{MAX_OPERATORS}
-use Rattle.op_types.proofs.Turning.{IsTurned}
+use Rattle.op_types.proofs.Cycles.{IsTurned}
 use Rattle.op_types.proofs.cycle.cycle_of.Given as goal
 
 abbrev pub invariant-loop-power : goal.invariant-loop-power

@@ -1,4 +1,4 @@
-use Rattle.op_types.proofs.Repeats.{returned, translated, fixed}
+use Rattle.op_types.proofs.PowersOfOperations.{returned, translated, fixed}
 use Rattle.op_types.proofs.laws.intrinsic_part_of_a_power.Goals as goal
 
 pub returns-clause-turned : goal.returns-clause-turned

@@ -1,5 +1,5 @@
 use Rattle.space_groups.proofs.Laws.{order_times_multiplicity}
-use Rattle.site_symmetry.proofs.Group.{space_of}
+use Rattle.site_symmetry.proofs.SpaceOfGroup.{space_of}
 use Rattle.orbit_map.proofs.laws.order_times_multiplicity.Goals as goal
 
 pub returns : goal.returns

@@ -3,7 +3,7 @@ use Rattle.std.proofs.lemmas.Bool.{false≢true}
 use Rattle.std.proofs.lemmas.Option.{slice_get-get_or}
 use Rattle.lattice_algebra.specs.Operator.{Operator, identity_operator}
 use Rattle.exact_ops.specs.Numbers.{point_in}
-use Rattle.site_symmetry.proofs.Listed.{AreSoMany, one_more_counted, no_more_counted, all_counted}
+use Rattle.site_symmetry.proofs.FixingLists.{AreSoMany, one_more_counted, no_more_counted, all_counted}
 use Rattle.site_symmetry.proofs.fixing.order_at.Goals as goal
 use Rattle.site_symmetry.proofs.fixing.order_at.Goals.{then-is_some, else-is_some}
 

@@ -1,6 +1,6 @@
 use Rattle.std.proofs.Common.{◌≤◌}
 use Rattle.exact_ops.specs.Numbers.{point_in}
-use Rattle.site_symmetry.proofs.Listed.{AreSoMany}
+use Rattle.site_symmetry.proofs.FixingLists.{AreSoMany}
 use Rattle.site_symmetry.proofs.fixing.order_at.Given as goal
 
 abbrev pub invariant-loop-i : goal.invariant-loop-i

@@ -1,5 +1,5 @@
 use Rattle.space_groups.proofs.Laws.{one_element}
-use Rattle.site_symmetry.proofs.Group.{space_of}
+use Rattle.site_symmetry.proofs.SpaceOfGroup.{space_of}
 use Rattle.site_symmetry.proofs.laws.one_element_of_a_rotation.Goals as goal
 
 pub returns : goal.returns

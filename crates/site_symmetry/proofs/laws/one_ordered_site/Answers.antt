@@ -1,4 +1,4 @@
-use Rattle.site_symmetry.proofs.Listed as listed
+use Rattle.site_symmetry.proofs.FixingLists as listed
 use Rattle.site_symmetry.proofs.laws.one_ordered_site.Goals as goal
 
 pub returns : goal.returns

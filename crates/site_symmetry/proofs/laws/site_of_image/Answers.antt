@@ -1,5 +1,5 @@
 use Rattle.space_groups.proofs.Laws as laws
-use Rattle.site_symmetry.proofs.Group.{space_of}
+use Rattle.site_symmetry.proofs.SpaceOfGroup.{space_of}
 use Rattle.site_symmetry.proofs.laws.site_of_image.Goals as goal
 
 pub returns : goal.returns

@@ -8,7 +8,7 @@ use Rattle.exact_ops.specs.Numbers.{point_in}
 use Rattle.exact_ops.specs.Elements.{map_in}
 use Rattle.exact_ops.specs.declared.moves.Move.{Move}
 use Rattle.site_symmetry.proofs.Shifts.{operator_of_member}
-use Rattle.site_symmetry.proofs.Listed.{AreFixing, one_more, no_more, all_fixing}
+use Rattle.site_symmetry.proofs.FixingLists.{AreFixing, one_more, no_more, all_fixing}
 use Rattle.site_symmetry.proofs.sites.site.Goals as goal
 use Rattle.site_symmetry.proofs.sites.site.Goals.{in-Some, in_default-fixes}
 

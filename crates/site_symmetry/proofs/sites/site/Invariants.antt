@@ -1,7 +1,7 @@
 use Rattle.std.proofs.Common.{◌≤◌, map, length, vec_len, vec_capacity}
 use Rattle.exact_ops.specs.Numbers.{point_in}
 use Rattle.exact_ops.specs.Elements.{map_in}
-use Rattle.site_symmetry.proofs.Listed.{AreFixing}
+use Rattle.site_symmetry.proofs.FixingLists.{AreFixing}
 use Rattle.site_symmetry.proofs.sites.site.Given as goal
 
 abbrev pub invariant-loop-i : goal.invariant-loop-i

@@ -6,7 +6,7 @@ use Rattle.lattice_algebra.specs.Operator.{HasEntriesWithin}
 use Rattle.lattice_algebra.specs.Powers.{power, sum_of_powers, IsOrder}
 use Rattle.lattice_algebra.proofs.Powers.{power-zero, power-more, sum_of_powers-zero, sum_of_powers-more, within-+ᵐ}
 use Rattle.group_closure.specs.declared.TheConstants.{MAX_OPERATORS}
-use Rattle.op_types.specs.Cycle.{HasSmallPowers}
+use Rattle.op_types.specs.SmallPowers.{HasSmallPowers}
 
 -- m is P^k and s the sum of the powers before it; no power above 0 was the identity so far
 pub record IsTurned (p : Matrix) (k : ℕ) (m s : Matrix) : Type 0 where

@@ -11,11 +11,11 @@ use Rattle.sg_cli.specs.declared.words.Command.{Command}
 use Rattle.sg_cli.specs.Words.{IsNoCommand}
 use Rattle.sg_cli.specs.Answer.{Printed, Refused, IsAnswerTo}
 use Rattle.sg_cli.specs.Run.{IfPrinted, IfRefused}
-use Rattle.sg_cli.specs.Seen.{SeenSource, SeenSink}
+use Rattle.sg_cli.specs.Streams.{SeenSource, SeenSink}
 
 -- the answer to the command is a text with this property
 abbrev pub PrintsSuch : Command → List ℕ → (List ℕ → Type 0) → Type 0
-PrintsSuch command bytes IsSuch = (text : List ℕ) × IsAnswerTo command bytes (Printed text) × IsSuch text
+PrintsSuch command bytes IsSuch = SomeText (λ text. IsAnswerTo command bytes (Printed text)) IsSuch
 
 module _ {K : Type 0} (sink : SeenSink K) where
   open sink use {held, faults, wants}

@@ -10,7 +10,7 @@ use Rattle.lattice_algebra.proofs.Maps.{map_path}
 use Rattle.lattice_algebra.proofs.MatrixRing.{matrix_at, column_at, ◌·ˢᶜ◌, ◌+ˢ◌, ◌+ˢᶜ◌, sym_nothing, sym_origin, column_ring}
 use Rattle.lattice_algebra.proofs.Powers.{power-one, power-more, power-add}
 use Rattle.exact_ops.specs.declared.TheConstants.{UNIT}
-use Rattle.op_types.specs.Intrinsic.{IsIntrinsicPart, repeated}
+use Rattle.op_types.specs.IntrinsicPart.{IsIntrinsicPart, repeated}
 use Rattle.op_types.proofs.FixedColumns.{·ᶜ-times, image_fixed}
 use Rattle.op_types.proofs.OneType.{same_order}
 

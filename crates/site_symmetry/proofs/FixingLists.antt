@@ -21,7 +21,7 @@ use Rattle.space_groups.proofs.Points.{scaled_of, site-scaled}
 use Rattle.space_groups.proofs.Sites.{fixer, has_fixer, has_fixer-is, fixer_of}
 use Rattle.space_groups.proofs.SiteLists.{one_length}
 use Rattle.site_symmetry.specs.OrderedSite.{SomeElementFixes, StandsBefore, IsOrderedSite}
-use Rattle.site_symmetry.proofs.Group.{space_of}
+use Rattle.site_symmetry.proofs.SpaceOfGroup.{space_of}
 
 -- ---- the elements of the first operators
 

@@ -5,7 +5,7 @@ use Rattle.lattice_algebra.specs.Operator.{HasEntriesWithin}
 use Rattle.lattice_algebra.specs.Powers.{power}
 use Rattle.group_closure.specs.declared.TheConstants.{MAX_OPERATORS}
 
--- each power has entries within 2, and one of the first 192 above 0 is the identity
+-- each power has entries within 2, and one of the first MAX_OPERATORS above 0 is the identity
 pub record HasSmallPowers (p : Matrix) : Type 0 where
   pub narrow : (k : ℕ) → HasEntriesWithin 2 (power p k)
   pub period : ℕ

@@ -2,7 +2,7 @@ use Rattle.std.proofs.Common.{◌≡◌, ◌≤◌, ℤ, pos, negsuc, ◌-ℤ◌
 use Rattle.std.proofs.lemmas.Int.{ints}
 use Rattle.lattice_algebra.specs.Matrix.{scaled}
 use Rattle.exact_ops.specs.Fields.{matrix_in}
-use Rattle.op_types.proofs.handedness.opposite_of.Goals as goal
+use Rattle.op_types.proofs.proper_part.opposite_of.Goals as goal
 
 negated : (x : ℤ) → unsigned_abs x ≤ 2 → to_z w32 (of_z w32 (pos 0 -ℤ to_z w32 (of_z w32 x))) ≡ negsuc 0 *ℤ x
 negated x h = omega (arith, ints)

@@ -3,9 +3,9 @@ use Rattle.std.specs.Int.{◌∣◌}
 use Rattle.std.proofs.Math.Nat.{dvd-mul_left}
 use Rattle.std.proofs.lemmas.Map.Made.{IsDistinct-from_AllPairs}
 use Rattle.finite_groups.proofs.Cosets.{part_divides}
-use Rattle.group_closure.proofs.Bundle.{cell_operators}
+use Rattle.group_closure.proofs.CellOperators.{cell_operators}
 use Rattle.group_closure.proofs.Lists.{closed_list}
-use Rattle.site_symmetry.proofs.laws.members_of_a_subgroup_divide.Goals as goal
+use Rattle.group_closure.proofs.laws.members_of_a_subgroup_divide.Goals as goal
 
 pub returns : goal.returns
 returns c = λ members part some h d m sub into.
