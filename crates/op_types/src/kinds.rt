@@ -5,8 +5,8 @@ ghost use Rattle.lattice_algebra.specs.Powers.{IsOrder};
 ghost use Rattle.op_types.specs.ProperPart.{IsProper, IsProperPart};
 
 use crate::cycle::cycle_of;
-use crate::proper_part::{is_proper, proper_part};
 use crate::parts::Kind;
+use crate::proper_part::{is_proper, proper_part};
 use exact_ops::Rotation;
 use group_closure::Group;
 

@@ -6,11 +6,11 @@
 
 mod axes;
 mod cycle;
-mod proper_part;
 mod intrinsic_part;
 mod kinds;
 mod laws;
 pub mod parts;
+mod proper_part;
 mod vector;
 
 pub use axes::axis;
