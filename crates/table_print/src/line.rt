@@ -2,21 +2,25 @@ ghost use Rattle.std.specs.Prelude.{◌≡◌, ◌+◌, ◌≤◌, ◌++◌, [],
 
 use std::marker::Model;
 
-/// A line of at most 768 bytes in place, so that printing it and telling a fault take no memory.
+/// The most bytes that a `Line` has room for.
+pub const LINE_ROOM: usize = 768;
+
+/// A line of at most `LINE_ROOM` bytes in place, so that printing it and telling a fault take no memory.
 #[derive(Drop)]
 pub struct Line {
-    bytes: [u8; 768],
+    bytes: [u8; LINE_ROOM],
     len: usize,
 }
 
 impl Model for Line {
     ghost use Rattle.std.specs.Prelude.{◌≤◌, ℕ, List, take};
+    ghost use Rattle.table_print.specs.declared.line.TheConstants.{LINE_ROOM};
 
     ghost Value = { List ℕ };
 
     ghost view = { λ line. take line.len line.bytes };
 
-    ghost invariant = { λ line. line.len ≤ 768 };
+    ghost invariant = { λ line. line.len ≤ LINE_ROOM };
 }
 
 impl Line {
@@ -24,7 +28,7 @@ impl Line {
         ensures { result ≡ [] }
     {
         Line {
-            bytes: [0; 768],
+            bytes: [0; LINE_ROOM],
             len: 0,
         }
     }
@@ -36,9 +40,9 @@ impl Line {
         &self.bytes[..self.len]
     }
 
-    /// Adds the piece at the end.
+    /// Adds the piece at the end. The line has room for it.
     pub fn push(&mut self, piece: &[u8])
-        requires { length self.old + length piece.now ≤ 768 }
+        requires { length self.old + length piece.now ≤ LINE_ROOM }
         ensures { self.new ≡ self.old ++ piece.now }
     {
         let end = self.len + piece.len();
