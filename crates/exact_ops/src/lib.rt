@@ -1,6 +1,7 @@
-//! Symmetry operators in whole numbers: a matrix and a translation in parts of a cell, their products and inverses.
+//! Symmetry operators in whole numbers: a matrix and a translation in parts of a cell, their products and inverses, modulo the
+//! translations of the lattice. Beside them the lists of what is read, rational points, and elements of the space group.
 //!
-//! International Tables A: the symmetry operation `x -> W x + t / UNIT`, taken modulo the translations of the lattice.
+//! International Tables A: the symmetry operation `x -> W x + t / UNIT`. The ranges are this project's own.
 #![tactic(auto)]
 
 mod divisors;
@@ -23,7 +24,7 @@ pub use raw::Raw;
 /// The number of parts of a cell in which translations are counted.
 pub const UNIT: u32 = 12;
 
-/// The greatest size of an entry of a matrix that is read. A line of a triplet adds less to each.
+/// The greatest size of an entry of a matrix that is read. No triplet has a greater one: each byte of a line adds at most 9.
 pub const MAX_ENTRY: u32 = 2304;
 
 /// The greatest size of a coordinate of a point, in cells.

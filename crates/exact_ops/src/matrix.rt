@@ -31,6 +31,7 @@ pub struct Translation {
 }
 
 impl Rotation {
+    /// The identity matrix.
     pub const IDENTITY: Rotation = Rotation {
         xx: 1,
         xy: 0,
@@ -82,7 +83,7 @@ impl Rotation {
         are_within(limit, self.zx, self.zy, self.zz)
     }
 
-    /// The cofactor formula.
+    /// The determinant, by the cofactor formula.
     pub fn determinant(&self) -> i64
         requires { HasEntriesWithin MAX_ENTRY (matrix_in self.now) }
         ensures value { result ≡ det (matrix_in self.now) }
@@ -156,8 +157,10 @@ impl Rotation {
 }
 
 impl Translation {
+    /// No translation.
     pub const ZERO: Translation = Translation { x: 0, y: 0, z: 0 };
 
+    /// The translation with these numbers: x, y, z.
     pub fn of(numbers: &[i32; 3]) -> Translation
         ensures { column_in result ≡ column_of numbers.now }
     {
@@ -168,6 +171,7 @@ impl Translation {
         }
     }
 
+    /// Its numbers: x, y, z.
     pub fn numbers(&self) -> [i32; 3]
         ensures { result ≡ coordinates (column_in self.now) }
     {
@@ -210,6 +214,7 @@ impl Translation {
         }
     }
 
+    /// The opposite translation.
     pub fn negated(&self) -> Translation
         requires { AreWithin (UNIT - 1) self.now.x self.now.y self.now.z }
         ensures value { column_in result ≡ neg_column (column_in self.now) }
@@ -223,6 +228,7 @@ impl Translation {
     }
 }
 
+/// Whether each number is at most this in size.
 pub fn are_within(limit: u32, a: i32, b: i32, c: i32) -> bool
     ensures { IsTrue result ↔ AreWithin limit a b c }
 {

@@ -51,6 +51,7 @@ pub enum OpFault {
 }
 
 impl Op {
+    /// The identity matrix and no translation.
     pub fn identity() -> Op
         ensures { result ≡ identity_operator }
     {

@@ -16,6 +16,7 @@ pub struct NoMemory;
 pub enum PushFault {
     /// The matrix has no whole inverse.
     NotUnimodular,
+    /// There is no memory for one more.
     NoMemory,
 }
 
@@ -67,6 +68,7 @@ impl OpList {
         Ok(())
     }
 
+    /// How many Raws it has.
     pub fn len(&self) -> usize
         ensures value { result ≡ length self.now }
         // What is true of every list.

@@ -1,3 +1,3 @@
 //! Laws of finite groups: words, closed lists, cosets, actions, averages, conjugates, keys and the table theorem, for any
-//! elements. It has no code: other crates cite its specs and proofs.
+//! elements. Standard algebra, nothing of crystals. It has no code: other crates cite its specs and proofs.
 #![tactic(auto)]

@@ -41,7 +41,8 @@ impl Model for Group {
 }
 
 impl Group {
-    /// The group that the listed operators generate. All memory is taken before the first product.
+    /// The group that the listed operators generate. `Unclosed` comes exactly where the list does not close, or in its place
+    /// `NoMemory`, as for any list. All memory is taken before the first product.
     pub fn close(alloc: Global, list: &OpList) -> Result<Group, CloseFault>
         ensures ok { IfOk result (λ group. IsGroupList list.now group) }
         ensures closes { OnOk result (Closes list.now) }
@@ -63,7 +64,7 @@ impl Group {
         Ok(Group { members })
     }
 
-    /// How many members it has.
+    /// How many members it has: 1 to `MAX_OPERATORS`.
     pub fn len(&self) -> u16
         ensures value { result ≡ length self.now }
         // What is true of every group.

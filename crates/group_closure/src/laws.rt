@@ -19,7 +19,8 @@ pub fn same_members_same_list()
     ensures { (list other members : List Operator) → ((f : Operator) → Contains list f ↔ Contains other f) → IsGroupList list members → IsGroupList other members }
 {}
 
-/// A list closes where its group list has at most `MAX_OPERATORS` members, each narrow: an operator with no entry outside -2..=2.
+/// A list closes where its group list has at most `MAX_OPERATORS` members, each narrow: an operator with no entry outside
+/// -2..=2.
 pub fn short_narrow_list_closes()
     ensures { (list members : List Operator) → IsGroupList list members → length members ≤ MAX_OPERATORS → All IsNarrow members → Closes list }
 {}

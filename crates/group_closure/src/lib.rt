@@ -1,5 +1,7 @@
 //! The group that a list of symmetry operators generates, modulo the translations of the lattice: all products of listed
 //! operators and their inverses, in one fixed order. A list that generates too many, or one too wide, is refused.
+//! International Tables A: the operations of a space group modulo its lattice translations; the order and the limits are this
+//! project's own.
 #![tactic(auto)]
 
 mod closing;
@@ -13,8 +15,8 @@ pub use laws::{
     unclosed_never_closes,
 };
 
-/// The most members that a group may have. In a conventional cell a space group has at most 48 rotation parts, each with at most
-/// four translations, those of a face-centred lattice.
+/// The most members that a group may have. In a conventional cell a space group has at most 48 rotation parts, each with at
+/// most four translations, those of a face-centred lattice. Each place in a group fits a u8.
 pub const MAX_OPERATORS: usize = 192;
 
 #[cfg(test)]

@@ -13,9 +13,9 @@ use crate::vector::Vector;
 use exact_ops::Rotation;
 use group_closure::Group;
 
-/// The axis of the operator at place i, in whole multiples of the basis: what its proper part fixes. None exactly where that is
-/// not one line. For a mirror or glide plane it is the line across the plane. The numbers have no common divisor, and the first
-/// that is not 0 is positive.
+/// The axis of the operator at place i, counted from 0, in whole multiples of the basis: what its proper part fixes. None
+/// exactly where that is not one line. For a mirror or glide plane it is the line across the plane. The numbers have no
+/// common divisor, and the first that is not 0 is positive.
 pub fn axis(g: &Group, i: u8) -> Option<[i32; 3]>
     requires { i < length g.now }
     ensures some { IfSome (slice_get g.now i) (λ (f : Operator). (p : Matrix) → IsProperPart f.w p → (IsSome result ↔ IsLine p)) }

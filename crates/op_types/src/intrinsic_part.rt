@@ -12,7 +12,8 @@ use crate::vector::Vector;
 use exact_ops::{Rotation, UNIT};
 use group_closure::Group;
 
-/// The three fractions n\[0\] / d, n\[1\] / d and n\[2\] / d, in parts of the basis. The denominator need not be the least.
+/// The three fractions n\[0\] / d, n\[1\] / d and n\[2\] / d, in fractions of the basis vectors. The denominator need not be
+/// the least.
 #[derive(Clone, Copy, PartialEq, Eq, Debug, Drop)]
 pub struct Frac3 {
     pub n: [i32; 3],
@@ -20,9 +21,9 @@ pub struct Frac3 {
     pub ghost positive: { pos 0 <ℤ d },
 }
 
-/// The intrinsic part of the operator at place i: the screw part of a screw axis, the glide vector of a glide plane. Its
-/// translation is taken in the cell. It is not reduced modulo 1 and can be negative. The order is that of the matrix itself, also
-/// where it is not proper.
+/// The intrinsic part of the operator at place i, counted from 0: the screw part of a screw axis, the glide vector of a glide
+/// plane. Its translation is taken in the cell. It is not reduced modulo 1 and can be negative. The order is that of the
+/// matrix itself, also where it is not proper.
 pub fn intrinsic(g: &Group, i: u8) -> Frac3
     requires { i < length g.now }
     ensures { IfSome (slice_get g.now i) (λ (f : Operator). IsIntrinsicPart f (column_of result.n) result.d) }

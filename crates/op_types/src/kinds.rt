@@ -10,7 +10,7 @@ use crate::proper_part::{is_proper, proper_part};
 use exact_ops::Rotation;
 use group_closure::Group;
 
-/// The kind of the operator at place i.
+/// The kind of the operator at place i, counted from 0: whether its determinant is positive, and the order of its proper part.
 pub fn kind(g: &Group, i: u8) -> Kind
     requires { i < length g.now }
     ensures handedness { IfSome (slice_get g.now i) (λ (f : Operator). IsTrue result.proper ↔ IsProper f.w) }

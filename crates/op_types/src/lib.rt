@@ -1,7 +1,7 @@
 //! What kind of symmetry operation an operator is: a rotation or a rotation with the inversion, its order, its intrinsic
 //! part and its axis.
 //!
-//! International Tables A, symmetry operations. All of it comes from the matrix itself, and nothing from a table.
+//! International Tables A, symmetry operations. All of it comes from the operator itself, and nothing from a table.
 #![tactic(auto)]
 
 mod axes;

@@ -19,7 +19,7 @@ pub fn orbit_of_point()
     ensures { (members : List Operator) (x : Point) → IsGroup members → IsScaled x → (orbit : List Point) × IsOrderedOrbit members x orbit }
 {}
 
-/// And one only.
+/// A rational point has one such orbit only.
 pub fn one_ordered_orbit()
     ensures { (members : List Operator) (x : Point) (a b : List Point) → IsGroup members → IsPoint x → IsOrderedOrbit members x a → IsOrderedOrbit members x b → a ≡ b }
 {}

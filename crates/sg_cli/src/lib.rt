@@ -1,4 +1,5 @@
-//! The command `sg`, from its words and its input to its output and its status. The program around it has `main` alone.
+//! The command `sg`, from its words and its input to its output and its status: `run`. The program around it has `main` alone.
+//! Words, statuses and texts are this project's own.
 #![tactic(auto)]
 
 mod answer;

@@ -11,8 +11,8 @@ ghost use Rattle.site_symmetry.specs.OrderedSite.{SomeElementFixes};
 use exact_ops::{Move, Point};
 use group_closure::Group;
 
-/// The operator (W, t) at place i stands for the elements `x -> W x + t / UNIT + shift`, the shift three whole numbers. This is
-/// the one that maps p to itself; there is at most one. None exactly where no such shift does.
+/// The operator (W, t) at place i, counted from 0, stands for the elements `x -> W x + t / UNIT + shift`, the shift three
+/// whole numbers. This is the one that maps p to itself; there is at most one. None exactly where no such shift does.
 pub fn fixes(g: &Group, i: u8, p: &Point) -> Option<Move>
     requires { i < length g.now }
     ensures some { (f : Operator) → slice_get g.now i ≡ Some f → (IsSome result ↔ SomeElementFixes f (point_in p.now)) }

@@ -12,7 +12,8 @@ use group_closure::Group;
 use sg_io::{Sink, SinkStop, put_all};
 use triplet_text::print_triplet;
 
-/// Writes the lines of the command `ops`: one for each operator of the group, in its order. It takes no memory.
+/// Writes the lines of the command `ops`: one for each operator of the group, in its order. It takes no memory. After an
+/// Err a prefix of the lines is written.
 pub fn print_ops<K: Sink>(g: &Group, sink: &mut K) -> Result<(), SinkStop>
     ensures ok { OnOk result (SomeText (AreOperatorLines g.now) (Appends (K.held sink.old) (K.held sink.new))) }
     ensures err { OnErr result (SomeText (AreOperatorLines g.now) (AppendsFront (K.held sink.old) (K.held sink.new))) }

@@ -16,7 +16,7 @@ use site_symmetry::parts::Site;
 use triplet_text::{print_frac, print_move};
 
 /// Writes the lines of the command `site`: the order of a site-symmetry group and the multiplicity of its point, then each
-/// element, then each point of the orbit. It takes no memory.
+/// element, then each point of the orbit. It takes no memory. After an Err a prefix of the lines is written.
 pub fn print_site<K: Sink>(s: &Site, o: &Orbit, sink: &mut K) -> Result<(), SinkStop>
     ensures ok { OnOk result (SomeText (IsSiteText s.now o.now) (Appends (K.held sink.old) (K.held sink.new))) }
     ensures err { OnErr result (SomeText (IsSiteText s.now o.now) (AppendsFront (K.held sink.old) (K.held sink.new))) }

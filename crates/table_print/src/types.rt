@@ -17,7 +17,8 @@ use sg_io::{Sink, SinkStop, put_all};
 use triplet_text::{print_frac, print_triplet};
 
 /// Writes the lines of the command `types`: for each operator of the group, in its order, the operator, its kind, its
-/// intrinsic part in parts of the basis, and its axis. It takes no memory.
+/// intrinsic part in fractions of the basis vectors, and its axis. It takes no memory. After an Err a prefix of the lines is
+/// written.
 pub fn print_types<K: Sink>(g: &Group, sink: &mut K) -> Result<(), SinkStop>
     ensures ok { OnOk result (SomeText (AreTypeLines g.now) (Appends (K.held sink.old) (K.held sink.new))) }
     ensures err { OnErr result (SomeText (AreTypeLines g.now) (AppendsFront (K.held sink.old) (K.held sink.new))) }
