@@ -1,7 +1,7 @@
 #!/usr/bin/env bash
 # How long the built program takes, as whole processes: run by hand, never part of the gate.
 #
-#     bash bench/ops.sh [RUNS]
+#     bash bench/calls.sh [RUNS]
 #
 # Each line is a mean over RUNS runs, in milliseconds. The first is what a process costs that does nothing. To compare
 # another program, run it in the same way, on the same machine, in the same minute.
