@@ -1,4 +1,4 @@
-ghost use Rattle.std.specs.Prelude.{◌≡◌, ◌↔◌, ℕ, List, ◌+◌, ◌≤◌, ◌<◌, length, take, IfOk, OnOk, OnErr, IsErrOf, Option};
+ghost use Rattle.std.specs.Prelude.{◌≡◌, ◌≢◌, ◌↔◌, ℕ, List, ◌+◌, ◌≤◌, ◌<◌, length, take, IfOk, OnOk, OnErr, IsErrOf, Option};
 ghost use Rattle.std.specs.Io.{ReadsAtMost};
 ghost use Rattle.std.specs.Io.KnownBytes.{ReadConsumes, Consumes, IsAtEnd};
 ghost use Rattle.sg_io.specs.Bytes.{ConsumesSome};
@@ -15,7 +15,7 @@ pub trait Source {
     /// The bytes still to come, where the source tells them.
     ghost left: { Self → Option (List ℕ) };
 
-    /// How often a read has failed. It never falls.
+    /// How often a read has failed: only such a read raises it, and it never falls.
     ghost faults: { Self → ℕ };
 
     /// Fills the front of the buffer with the next bytes, and says with how many. 0 for a buffer that is not empty
@@ -24,7 +24,8 @@ pub trait Source {
         ensures bound { ReadsAtMost result buf.new }
         ensures bytes { ReadConsumes (left self.old) (left self.new) result buf.new }
         ensures faults_later { faults self.old ≤ faults self.new }
-        ensures failed { OnErr result (Rose (faults self.old) (faults self.new)) };
+        ensures failed { OnErr result (Rose (faults self.old) (faults self.new)) }
+        ensures unfailed { OnOk result (faults self.new ≡ faults self.old) };
 }
 
 /// Why an input was not read to its end.
@@ -45,6 +46,7 @@ fn fill<S: Source>(src: &mut S, buf: &mut [u8]) -> Result<usize, Failed>
     ensures end { IfOk result (λ count. count < length buf.new → IsAtEnd (S.left src.new)) }
     ensures faults_later { S.faults src.old ≤ S.faults src.new }
     ensures failed { OnErr result (Rose (S.faults src.old) (S.faults src.new)) }
+    ensures unfailed { OnOk result (S.faults src.new ≡ S.faults src.old) }
     ensures taken { OnErr result (ConsumesSome (S.left src.old) (S.left src.new) (λ count. count < length buf.new)) }
 {
     let mut filled = 0;
@@ -68,6 +70,7 @@ pub fn read_all<S: Source>(alloc: Global, src: &mut S, limit: u32) -> Result<Vec
     ensures too_long { ConsumesSome (S.left src.old) (S.left src.new) (λ count.
         (count ≤ limit + 1) × (IsErrOf result ReadStop.TooLong ↔ (count ≡ limit + 1))) }
     ensures failed { IsErrOf result ReadStop.Failed → Rose (S.faults src.old) (S.faults src.new) }
+    ensures unfailed { result ≢ Err ReadStop.Failed → S.faults src.new ≡ S.faults src.old }
     ensures no_memory { IsErrOf result ReadStop.NoMemory → src.new ≡ src.old }
     ensures faults_later { S.faults src.old ≤ S.faults src.new }
 {

@@ -14,6 +14,6 @@ returns-in_err-count-clause-taken g c =
 pub loop-filled-preserved : goal.loop-filled-preserved
 loop-filled-preserved g c = record {
   taken = filled_more _ _ _ c.loop-filled.filled c.in_ok-count.count c.loop-filled.buf c.read.new.buf c.loop-filled.invariant.within c.in_ok-count.ensures.bound.0 c.loop-filled.invariant.taken c.in_ok-count.ensures.bytes.0;
-  later = omega (arith, c.in_ok-count.ensures.faults_later);
+  unfailed = cc (c.in_ok-count.ensures.unfailed, c.loop-filled.invariant.unfailed);
   within = rw (same_len_mid c.loop-filled.filled (length c.loop-filled.buf - c.loop-filled.filled) c.loop-filled.buf c.read.new.buf c.read.auto.buf) (filled_within c.loop-filled.filled c.in_ok-count.count c.loop-filled.buf c.read.new.buf c.loop-filled.invariant.within c.read.auto.buf c.in_ok-count.ensures.bound.0);
 }
