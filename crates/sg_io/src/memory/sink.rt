@@ -1,4 +1,4 @@
-ghost use Rattle.std.specs.Prelude.{◌≡◌, ◌≢◌, ◌↔◌, ℕ, [], ◌≤◌, Some, IfOk, IsErrOf, Contains};
+ghost use Rattle.std.specs.Prelude.{◌≡◌, ◌≢◌, ◌↔◌, ℕ, [], ◌≤◌, Some, length, min, IfOk, IsErrOf, Contains};
 ghost use Rattle.std.specs.Io.{WritesAtMost};
 ghost use Rattle.std.specs.Io.KnownBytes.{WriteAppends};
 ghost use Rattle.sg_io.specs.Count.{CountsError, CountsErrors, raised};
@@ -11,7 +11,8 @@ use crate::sink::{Sink, SinkStop};
 use std::alloc::Global;
 use std::marker::Model;
 
-/// Bytes in memory, of which one call takes at most `piece`. Writing never fails but for want of memory.
+/// Bytes in memory. One call takes `piece` of them, or all where they are fewer. Writing never fails but for want of
+/// memory.
 #[derive(Drop)]
 pub struct NoFailSink {
     bytes: Vec<u8>,
@@ -34,7 +35,8 @@ impl NoFailSink {
     /// An empty sink, which takes no memory yet.
     pub fn new(alloc: Global, piece: u32) -> NoFailSink
         requires { 1 ≤ piece }
-        ensures { result ≡ record { held = []; piece = piece; wants = 0 } }
+        ensures value { result ≡ record { held = []; piece = piece; wants = 0 } }
+        ensures held { ⟦<NoFailSink as Sink>⟧.held result ≡ Some [] }
     {
         NoFailSink {
             bytes: Vec::new(alloc),
@@ -65,7 +67,7 @@ impl Sink for NoFailSink {
         ensures never_fails { result ≢ Err SinkStop.Failed }
         ensures wants_later { self.old.wants ≤ self.new.wants }
         ensures wants { CountsErrors self.old.wants self.new.wants result }
-        ensures piece { IfOk result (λ count. count ≤ self.old.piece) }
+        ensures count { IfOk result (λ count. count ≡ min (length piece.now) self.old.piece) }
         ensures same { self.new.piece ≡ self.old.piece }
     {
         let count = piece.len().min(self.piece as usize);
@@ -79,8 +81,8 @@ impl Sink for NoFailSink {
     }
 }
 
-/// Bytes in memory, of which one call takes at most `piece`. The calls whose numbers are listed fail: every call of
-/// `write` counts, from 0, also one that was refused and one with an empty piece.
+/// Bytes in memory, taken as by a `NoFailSink`. The calls whose numbers are listed fail: every call of `write` counts,
+/// from 0, also one that was refused and one with an empty piece.
 #[derive(Drop)]
 pub struct MemSink {
     inner: NoFailSink,
@@ -106,8 +108,9 @@ impl MemSink {
     /// An empty sink, which takes memory only for the list of the calls that fail.
     pub fn new(alloc: Global, piece: u32, fails: &[u32]) -> Result<MemSink, NoIoMemory>
         requires { 1 ≤ piece }
-        ensures { IfOk result (λ sink. sink ≡
+        ensures value { IfOk result (λ sink. sink ≡
             record { held = []; piece = piece; wants = 0; fails = fails.now; made = 0; faults = 0 }) }
+        ensures held { IfOk result (λ sink. ⟦<MemSink as Sink>⟧.held sink ≡ Some []) }
     {
         Ok(MemSink {
             inner: NoFailSink::new(alloc, piece),
@@ -140,7 +143,7 @@ impl Sink for MemSink {
         ensures faults { CountsError self.old.faults self.new.faults result SinkStop.Failed }
         ensures wants { CountsError self.old.wants self.new.wants result SinkStop.NoMemory }
         ensures made { self.new.made ≡ raised self.old.made }
-        ensures piece { IfOk result (λ count. count ≤ self.old.piece) }
+        ensures count { IfOk result (λ count. count ≡ min (length piece.now) self.old.piece) }
         ensures same_fails { self.new.fails ≡ self.old.fails }
         ensures same_piece { self.new.piece ≡ self.old.piece }
     {

@@ -1,4 +1,4 @@
-ghost use Rattle.std.specs.Prelude.{◌≡◌, ◌↔◌, ℕ, ◌≤◌, Some, IfOk, OnErr, IsOk, IsErr, Contains};
+ghost use Rattle.std.specs.Prelude.{◌≡◌, ◌↔◌, ℕ, ◌≤◌, Some, length, min, IfOk, OnErr, IsOk, IsErr, Contains};
 ghost use Rattle.std.specs.Io.{ReadsAtMost};
 ghost use Rattle.std.specs.Io.KnownBytes.{ReadConsumes};
 ghost use Rattle.sg_io.specs.Count.{CountsErrors, raised};
@@ -10,7 +10,8 @@ use crate::source::{Failed, Source};
 use std::alloc::Global;
 use std::marker::Model;
 
-/// Bytes in memory, of which one call gives at most `piece`. Reading them never fails.
+/// Bytes in memory. One call gives `piece` of them, or those that are left or have room, where they are fewer. Reading
+/// them never fails.
 #[derive(Drop)]
 pub struct NoFailSource {
     bytes: Vec<u8>,
@@ -32,7 +33,8 @@ impl Model for NoFailSource {
 impl NoFailSource {
     pub fn new(alloc: Global, bytes: &[u8], piece: u32) -> Result<NoFailSource, NoIoMemory>
         requires { 1 ≤ piece }
-        ensures { IfOk result (λ source. source ≡ record { left = bytes.now; piece = piece }) }
+        ensures value { IfOk result (λ source. source ≡ record { left = bytes.now; piece = piece }) }
+        ensures left { IfOk result (λ source. ⟦<NoFailSource as Source>⟧.left source ≡ Some bytes.now) }
     {
         match Vec::from_slice(alloc, bytes) {
             Ok(bytes) => Ok(NoFailSource {
@@ -54,7 +56,7 @@ impl Source for NoFailSource {
         ensures bound { ReadsAtMost result buf.new }
         ensures bytes { ReadConsumes (Some self.old.left) (Some self.new.left) result buf.new }
         ensures never_fails { IsOk result }
-        ensures piece { IfOk result (λ count. count ≤ self.old.piece) }
+        ensures count { IfOk result (λ count. count ≡ min (min (length self.old.left) (length buf.new)) self.old.piece) }
         ensures same { self.new.piece ≡ self.old.piece }
     {
         let rest = &self.bytes[self.at..];
@@ -65,8 +67,8 @@ impl Source for NoFailSource {
     }
 }
 
-/// Bytes in memory, of which one call gives at most `piece`. The calls whose numbers are listed fail: every call of
-/// `read` counts, from 0, also one that failed and one with an empty buffer.
+/// Bytes in memory, given as by a `NoFailSource`. The calls whose numbers are listed fail: every call of `read` counts,
+/// from 0, also one that failed and one with an empty buffer.
 #[derive(Drop)]
 pub struct MemSource {
     inner: NoFailSource,
@@ -95,8 +97,9 @@ impl MemSource {
         fails: &[u32],
     ) -> Result<MemSource, NoIoMemory>
         requires { 1 ≤ piece }
-        ensures { IfOk result (λ source. source ≡
+        ensures value { IfOk result (λ source. source ≡
             record { left = bytes.now; piece = piece; fails = fails.now; made = 0; faults = 0 }) }
+        ensures left { IfOk result (λ source. ⟦<MemSource as Source>⟧.left source ≡ Some bytes.now) }
     {
         Ok(MemSource {
             inner: NoFailSource::new(alloc, bytes, piece)?,
@@ -118,7 +121,7 @@ impl Source for MemSource {
         ensures faults_later { self.old.faults ≤ self.new.faults }
         ensures counted { CountsErrors self.old.faults self.new.faults result }
         ensures made { self.new.made ≡ raised self.old.made }
-        ensures piece { IfOk result (λ count. count ≤ self.old.piece) }
+        ensures count { IfOk result (λ count. count ≡ min (min (length self.old.left) (length buf.new)) self.old.piece) }
         ensures same_fails { self.new.fails ≡ self.old.fails }
         ensures same_piece { self.new.piece ≡ self.old.piece }
     {
