@@ -77,6 +77,32 @@ fn a_writer_of_std_is_flushed_and_never_tried_again(rt: HostRuntime) -> Result<(
     Ok(())
 }
 
+/// A writer that takes all, and whose flush fails.
+#[derive(Drop)]
+struct Unflushed {
+    taken: usize,
+}
+
+impl Write for Unflushed {
+    fn write(&mut self, buf: &[u8]) -> io::Result<usize> {
+        self.taken = self.taken.saturating_add(buf.len());
+        Ok(buf.len())
+    }
+
+    fn flush(&mut self) -> io::Result<()> {
+        Err(io::Error::from(ErrorKind::BrokenPipe))
+    }
+}
+
+#[test]
+fn a_flush_that_fails_is_a_fault(rt: HostRuntime) -> Result<(), Fail> {
+    let mut unflushed = Unflushed { taken: 0 };
+    let mut sink = StdSink::new(&mut unflushed);
+    assert_eq!(rt; put_all(&mut sink, b"xyz"), Err(SinkStop::Failed));
+    assert_eq!(rt; unflushed.taken, 3);
+    Ok(())
+}
+
 #[test]
 fn a_writer_that_takes_nothing_has_failed(rt: HostRuntime) -> Result<(), Fail> {
     let mut room = [0; 2];
