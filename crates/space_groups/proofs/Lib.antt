@@ -1,5 +1,6 @@
 pub mod ScaledPoints
 pub mod Elements
+pub mod BlockRing
 pub mod Blocks
 pub mod Means
 pub mod Carried
