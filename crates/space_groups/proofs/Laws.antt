@@ -35,12 +35,8 @@ module _ (L : SpaceGroup) where
       let there = site-scaled L (image unit g x) (moved g y.0) (IsPoint-image unit some g x p) (image_of L x y.0 g y.1) s in
       let here : (r : Map) → IsInSite unit members x r ↔ (IsElement unit members r × (moved r y.0 ≡ y.0)) = λ r. site-scaled L x y.0 p y.1 r in (
         (λ a.
-            let t = there.0 a in
-            let r : Map = (undo g ∘ s) ∘ g in
-            let rin : IsElement unit members r = (space L).mul_in (undo g ∘ s) g ((space L).mul_in (undo g) s ((space L).inv_in g m) t.0) m in
-            let is : conjugates.conj (space L) A g r ≡ s = conjugates.conj_onto (space L) A g s m t.0 in
-            let k = (conjugates.site_moved (space L) A g r y.0 m rin).1 (subst (λ v. IsElement unit members v × (moved v (moved g y.0) ≡ moved g y.0)) (sym is) t) in
-            (r, (here r).1 k, sym is ∙ ap (λ v. (g ∘ r) ∘ v) (sym back))),
+            let r = conjugates.site_onto (space L) A g s y.0 m (there.0 a) in
+            (r.0, (here r.0).1 r.1, sym r.2 ∙ ap (λ v. (g ∘ r.0) ∘ v) (sym back))),
         (λ c.
             let r = (here c.0).0 c.1 in
             let k = (conjugates.site_moved (space L) A g c.0 y.0 m r.0).0 r in

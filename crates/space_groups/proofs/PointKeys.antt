@@ -54,12 +54,8 @@ module _ (L : SpaceGroup) where
         let s = (site_is L y r.0).0 ((same r.0).1 r.1) in
         subst (Contains (site L (moved h y))) r.2 ((site_is L (moved h y) (turned h r.0)).1 ((conjugates.site_moved (space L) (on_points L) h r.0 y m s.0).0 s))),
     (λ c.
-        let t = (site_is L (moved h y) e).0 c in
-        let s : Map = (undo h ∘ e) ∘ h in
-        let sin : IsElement unit members s = (space L).mul_in (undo h ∘ e) h ((space L).mul_in (undo h) e ((space L).inv_in h m) t.0) m in
-        let q : turned h s ≡ e = conjugates.conj_onto (space L) (on_points L) h e m t.0 in
-        let k = (conjugates.site_moved (space L) (on_points L) h s y m sin).1 (subst (λ v. IsElement unit members v × (moved v (moved h y) ≡ moved h y)) (sym q) t) in
-        subst (Contains (map (turned h) fs)) q (lists.Contains-map (turned h) s fs ((same s).0 ((site_is L y s).1 k)))),
+        let s = conjugates.site_onto (space L) (on_points L) h e y m ((site_is L (moved h y) e).0 c) in
+        subst (Contains (map (turned h) fs)) s.2 (lists.Contains-map (turned h) s.0 fs ((same s.0).0 ((site_is L y s.0).1 s.1)))),
   )
 
   -- the average of the group of h y is the carried average of the group of y

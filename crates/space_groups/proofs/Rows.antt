@@ -299,24 +299,41 @@ module _ {L : SpaceGroup} {K : Type 0} (kept : AreKept L K) where
   all_points : (y : ScaledPoint) → InK trivial.0 y
   all_points y = (fixed_by trivial.0 y).1 (λ e c. ⊎_elim (λ q. subst (λ v. moved v y ≡ y) q (moved-identity y)) (λ d. lists.not_in_nil e d) (lists.Contains-cases e identity_map [] (subst (λ v. Contains v e) trivial.1 c)))
 
+  -- the kept sets and their rows, as a table of the action of the space group on the points
+  abbrev kept_table : table.Table (space L) (on_points L)
+  kept_table = record {
+    sites = sites L;
+    K = K;
+    In = InK;
+    full = all_of;
+    kept = rows_kept;
+    grows = rows_grow;
+    first = trivial.0;
+    everywhere = all_points;
+    N = length members;
+    N_some = some_members L;
+    mult = mult;
+    orbit = λ y. length (orbit L y);
+    Lies = λ k y. Lies unit (length members) (key k) (point_of unit y);
+    some = some_site;
+    mult_is = λ k. is_mult k (all_of k) (full_list L (set k));
+    orbit_is = site_times_orbit L;
+    lies_from = lies_from;
+    lies_to = lies_to;
+  }
+
   pub every_scaled_fits : (y : ScaledPoint) → (k : K) × FitsScaled k y
-  every_scaled_fits y =
-      table.every_point_fits (space L) (on_points L) (sites L) K InK all_of rows_kept (length members) (some_members L) mult (λ z. length (orbit L z)) (λ k z. Lies unit (length members) (key k) (point_of unit z))
-      some_site (λ k. is_mult k (all_of k) (full_list L (set k))) (site_times_orbit L) lies_from lies_to rows_grow trivial.0 all_points y
+  every_scaled_fits = table.every_point_fits kept_table
 
   pub one_row : (j k : K) (y : ScaledPoint) → FitsScaled j y → FitsScaled k y → j ≡ k
-  one_row = table.fits_one (space L) (on_points L) (sites L) K InK all_of rows_kept (length members) (some_members L) mult (λ z. length (orbit L z)) (λ k z. Lies unit (length members) (key k) (point_of unit z))
-      some_site (λ k. is_mult k (all_of k) (full_list L (set k))) (site_times_orbit L) lies_from lies_to
+  one_row = table.fits_one kept_table
 
   pub every_row_fits : (k : K) → (y : ScaledPoint) × FitsScaled k y
-  every_row_fits = table.every_row_fits (space L) (on_points L) (sites L) K InK all_of rows_kept (length members) (some_members L) mult (λ z. length (orbit L z)) (λ k z. Lies unit (length members) (key k) (point_of unit z))
-      some_site (λ k. is_mult k (all_of k) (full_list L (set k))) (site_times_orbit L) lies_from lies_to
+  every_row_fits = table.every_row_fits kept_table
 
   pub same_row : (k : K) (x y : ScaledPoint) → FitsScaled k x → FitsScaled k y ↔ conjugates.Conjugate (space L) (on_points L) x y
-  same_row = table.same_row (space L) (on_points L) (sites L) K InK all_of rows_kept (length members) (some_members L) mult (λ z. length (orbit L z)) (λ k z. Lies unit (length members) (key k) (point_of unit z))
-      some_site (λ k. is_mult k (all_of k) (full_list L (set k))) (site_times_orbit L) lies_from lies_to
+  same_row = table.same_row kept_table
 
   -- some image of a point that fits a row is fixed by exactly what fixes the image of its average
   pub has_group : (k : K) (y : ScaledPoint) → FitsScaled k y → (g : Map) × IsElement unit members g × ((e : Map) → Contains (site L (moved g y)) e ↔ Contains (all_of k) e)
-  has_group = table.group_from_fits (space L) (on_points L) (sites L) K InK all_of rows_kept (length members) (some_members L) mult (λ z. length (orbit L z)) (λ k z. Lies unit (length members) (key k) (point_of unit z))
-      some_site (λ k. is_mult k (all_of k) (full_list L (set k))) (site_times_orbit L) lies_from lies_to
+  has_group = table.group_from_fits kept_table
