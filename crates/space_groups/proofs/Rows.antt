@@ -1,22 +1,21 @@
 -- The kept sets of the search are the rows of a table.
-use Rattle.std.proofs.Common.{◌≡◌, ◌++◌, ◌∷◌, [], ℕ, ◌*◌, ◌<◌, ◌↔◌, List, length, ℤ, pos, ◌*ℤ◌, Contains, ap, ap₂, sym, ◌∙◌, refl, subst, arith, ⊎_elim}
+use Rattle.std.proofs.Common.{◌≡◌, ◌++◌, ◌∷◌, [], ℕ, ◌*◌, ◌<◌, ◌↔◌, List, length, ℤ, pos, ◌*ℤ◌, ◌<ℤ◌, Contains, ap, ap₂, sym, ◌∙◌, refl, subst, arith, ⊎_elim}
 use Rattle.std.proofs.lemmas.List.Elements.{All-contains}
 use Rattle.std.proofs.lemmas.Map.Made.{AllPairs-from_IsDistinct}
-use Rattle.lattice_algebra.specs.Matrix.{Matrix, Column, entries, coordinates, ◌·◌, ◌·ᶜ◌, ◌+ᶜ◌, neg_column, times, scaled, origin, identity}
+use Rattle.lattice_algebra.specs.Matrix.{Matrix, Column, entries, coordinates, ◌·ᶜ◌, ◌+ᶜ◌, neg_column, times, identity}
 use Rattle.lattice_algebra.specs.Operator.{Operator, HasEntriesWithin}
 use Rattle.lattice_algebra.specs.Map.{Map, ◌∘◌, identity_map, undo, operator_of}
-use Rattle.lattice_algebra.proofs.Ring.{var, ◌⊗◌}
-use Rattle.lattice_algebra.proofs.MatrixRing.{matrix_at, column_at, ◌·ˢ◌, ◌·ˢᶜ◌, ◌+ˢᶜ◌, sym_times, sym_neg, sym_scaled, sym_origin, sym_identity, column_ring}
+use Rattle.lattice_algebra.proofs.Ring.{var, ◌⊗◌, ring}
+use Rattle.lattice_algebra.proofs.MatrixRing.{matrix_at, column_at, ◌·ˢᶜ◌, ◌+ˢᶜ◌, sym_times, sym_neg, sym_identity, column_ring}
 use Rattle.lattice_algebra.proofs.Maps.{map_eq-is}
 use Rattle.lattice_algebra.proofs.Remainders.{modulo_is}
 use Rattle.lattice_algebra.proofs.Numbers.{above, positive_product}
 use Rattle.lattice_algebra.proofs.Points.{positive_times}
-use Rattle.lattice_algebra.proofs.Columns.{cancel_column, swap_times}
 use Rattle.finite_groups.proofs.Members as lists
 use Rattle.finite_groups.proofs.Conjugates as conjugates
 use Rattle.finite_groups.proofs.Table as table
 use Rattle.space_groups.specs.Space.{IsElement, ScaledPoint, moved, point_of}
-use Rattle.space_groups.specs.Averages.{Block, block_times, block_scaled, IsInImage}
+use Rattle.space_groups.specs.Averages.{Block, Vector, block_times, block_scaled, block_on, vector_scaled, IsInImage}
 use Rattle.space_groups.specs.Regions.{IsInBox, shift_by}
 use Rattle.space_groups.specs.Keys.{carried, Key, key_of, IsKey}
 use Rattle.space_groups.specs.Rows.{Lies, row_point}
@@ -24,14 +23,14 @@ use Rattle.space_groups.specs.Search.{FixAll, IsFull}
 use Rattle.space_groups.proofs.ScaledPoints.{moved-∘, moved-identity}
 use Rattle.space_groups.proofs.Elements.{SpaceGroup, space, on_points}
 use Rattle.space_groups.proofs.Means as means
-use Rattle.space_groups.proofs.Means.{Averaged}
+use Rattle.space_groups.proofs.Means.{Averaged, vec, on_image}
 use Rattle.space_groups.proofs.Carried.{carried-number, image_carried, image_carried_back, carried_idempotent}
 use Rattle.space_groups.proofs.Regions.{Box, shift_in, move_near, near_in_box}
 use Rattle.space_groups.proofs.Generic.{mean_within, generic}
 use Rattle.space_groups.proofs.Keys.{same_key_same_image}
 use Rattle.space_groups.proofs.Sites.{site, sites, site_is, full, full_of, full_own}
 use Rattle.space_groups.proofs.Orbits.{orbit, site_times_orbit}
-use Rattle.space_groups.proofs.Blocks.{matrix_part, translation_part}
+use Rattle.space_groups.proofs.Blocks.{vector_path, cancel_vector, on_times, on_scaled, to_scaled, vector_scaled_twice}
 
 -- the matrices of the operators have entries of size at most 2
 abbrev pub AreNarrow : List Operator → Type 0
@@ -39,87 +38,35 @@ AreNarrow members = (f : Operator) → Contains members f → HasEntriesWithin 2
 
 -- ---- what lies on a printed row
 
-first : (m : Matrix) (z t : Column) (u e : ℤ) → m ·ᶜ (times u (m ·ᶜ z) +ᶜ times e t) ≡ times u ((m · m) ·ᶜ z) +ᶜ times e (m ·ᶜ t)
-unfolding ◌·◌ ◌·ᶜ◌ ◌+ᶜ◌ times
-first m z t u e =
-    let U = var 0 in
-    let E = var 1 in
-    let M = matrix_at 2 in
-    let Z = column_at 11 in
-    let T = column_at 14 in
-    column_ring (u ∷ e ∷ (entries m ++ (coordinates z ++ coordinates t))) (M ·ˢᶜ (sym_times U (M ·ˢᶜ Z) +ˢᶜ sym_times E T)) (sym_times U ((M ·ˢ M) ·ˢᶜ Z) +ˢᶜ sym_times E (M ·ˢᶜ T)) tt
+-- where a is idempotent and a multiple of y is a multiple of a v, a leaves y where it is
+row_image : (a : Block) (v y : Vector) (w s : ℤ) → pos 0 <ℤ w → block_times a a ≡ block_scaled a.n a → vector_scaled w y ≡ vector_scaled s (block_on a v) → block_on a y ≡ vector_scaled a.n y
+row_image a v y w s h two e =
+    let again : block_on a (block_on a v) ≡ vector_scaled a.n (block_on a v) = sym (on_times a a v) ∙ ap (λ b. block_on b v) two ∙ on_scaled a.n a v in
+    cancel_vector w _ _ h (sym (to_scaled w a y) ∙ ap (block_on a) e ∙ to_scaled s a (block_on a v) ∙ ap (vector_scaled s) again ∙ vector_scaled_twice s a.n (block_on a v) ∙ ap (vector_scaled a.n) (sym e) ∙ vector_scaled_twice a.n w y)
 
-second : (m : Matrix) (z : Column) (u e n : ℤ) → times u (scaled n m ·ᶜ z) +ᶜ times e origin ≡ times n (times u (m ·ᶜ z))
-unfolding ◌·ᶜ◌ ◌+ᶜ◌ times scaled
-second m z u e n =
-    let U = var 0 in
-    let E = var 1 in
-    let N = var 2 in
-    let M = matrix_at 3 in
-    let Z = column_at 12 in
-    column_ring (u ∷ e ∷ n ∷ (entries m ++ coordinates z)) (sym_times U (sym_scaled N M ·ˢᶜ Z) +ˢᶜ sym_times E sym_origin) (sym_times N (sym_times U (M ·ˢᶜ Z))) tt
-
--- c = u M z + e t, which M takes to N u M z
-taken : (m : Matrix) (z t : Column) (u e n : ℤ) → m · m ≡ scaled n m → m ·ᶜ t ≡ origin → m ·ᶜ (times u (m ·ᶜ z) +ᶜ times e t) ≡ times n (times u (m ·ᶜ z))
-taken m z t u e n mm mt = first m z t u e ∙ ap₂ (λ x y. times u (x ·ᶜ z) +ᶜ times e y) mm mt ∙ second m z u e n
-
--- the moved point, times the denominator: D (y + d u k') = u d c
-row_moved : (y c t j k : Column) (u d n e : ℤ) → times (u *ℤ n *ℤ e) y ≡ times (u *ℤ d) (c +ᶜ times e (t +ᶜ times (u *ℤ n) j) +ᶜ times (u *ℤ n *ℤ e) k)
-    → times (u *ℤ n *ℤ e) (identity ·ᶜ y +ᶜ times d (times u (neg_column (k +ᶜ j)))) ≡ times (u *ℤ d) (c +ᶜ times e t)
+-- the moved point, times the denominator D = u n e: D (y + d u k') = u d (M u z + e t), where k' = -(k + j)
+row_moved : (m : Matrix) (y z t j k : Column) (u d n e : ℤ) → times (u *ℤ n *ℤ e) y ≡ times (u *ℤ d) (times u (m ·ᶜ z) +ᶜ times e (t +ᶜ times (u *ℤ n) j) +ᶜ times (u *ℤ n *ℤ e) k)
+    → times (u *ℤ n *ℤ e) (identity ·ᶜ y +ᶜ times d (times u (neg_column (k +ᶜ j)))) ≡ times (u *ℤ d) (m ·ᶜ times u z +ᶜ times e t)
 unfolding ◌·ᶜ◌ ◌+ᶜ◌ times neg_column
-row_moved y c t j k u d n e h =
+row_moved m y z t j k u d n e h =
     let U = var 0 in
     let D = var 1 in
     let N = var 2 in
     let E = var 3 in
-    let Y = column_at 4 in
-    let C = column_at 7 in
-    let T = column_at 10 in
-    let J = column_at 13 in
-    let K = column_at 16 in
+    let M = matrix_at 4 in
+    let Y = column_at 13 in
+    let Z = column_at 16 in
+    let T = column_at 19 in
+    let J = column_at 22 in
+    let K = column_at 25 in
     let W = U ⊗ N ⊗ E in
-    let r = u ∷ d ∷ n ∷ e ∷ (coordinates y ++ (coordinates c ++ (coordinates t ++ (coordinates j ++ coordinates k)))) in
+    let r = u ∷ d ∷ n ∷ e ∷ (entries m ++ (coordinates y ++ (coordinates z ++ (coordinates t ++ (coordinates j ++ coordinates k))))) in
     column_ring r (sym_times W (sym_identity ·ˢᶜ Y +ˢᶜ sym_times D (sym_times U (sym_neg (K +ˢᶜ J))))) (sym_times W Y +ˢᶜ sym_neg (sym_times (U ⊗ D) (sym_times W (K +ˢᶜ J)))) tt
     ∙ ap (λ v. v +ᶜ neg_column (times (u *ℤ d) (times (u *ℤ n *ℤ e) (k +ᶜ j)))) h
-    ∙ column_ring r (sym_times (U ⊗ D) (C +ˢᶜ sym_times E (T +ˢᶜ sym_times (U ⊗ N) J) +ˢᶜ sym_times W K) +ˢᶜ sym_neg (sym_times (U ⊗ D) (sym_times W (K +ˢᶜ J)))) (sym_times (U ⊗ D) (C +ˢᶜ sym_times E T)) tt
+    ∙ column_ring r (sym_times (U ⊗ D) (sym_times U (M ·ˢᶜ Z) +ˢᶜ sym_times E (T +ˢᶜ sym_times (U ⊗ N) J) +ˢᶜ sym_times W K) +ˢᶜ sym_neg (sym_times (U ⊗ D) (sym_times W (K +ˢᶜ J)))) (sym_times (U ⊗ D) (M ·ˢᶜ sym_times U Z +ˢᶜ sym_times E T)) tt
 
-spread_out : (m : Matrix) (p t : Column) (w d : ℤ) → times w (m ·ᶜ p +ᶜ times d t) ≡ m ·ᶜ times w p +ᶜ times (w *ℤ d) t
-unfolding ◌·ᶜ◌ ◌+ᶜ◌ times
-spread_out m p t w d =
-    let W = var 0 in
-    let D = var 1 in
-    let M = matrix_at 2 in
-    let P = column_at 11 in
-    let T = column_at 14 in
-    column_ring (w ∷ d ∷ (entries m ++ (coordinates p ++ coordinates t))) (sym_times W (M ·ˢᶜ P +ˢᶜ sym_times D T)) (M ·ˢᶜ sym_times W P +ˢᶜ sym_times (W ⊗ D) T) tt
-
-pull : (m : Matrix) (c t : Column) (w x : ℤ) → m ·ᶜ times w c +ᶜ times x t ≡ times w (m ·ᶜ c) +ᶜ times x t
-unfolding ◌·ᶜ◌ ◌+ᶜ◌ times
-pull m c t w x =
-    let W = var 0 in
-    let X = var 1 in
-    let M = matrix_at 2 in
-    let C = column_at 11 in
-    let T = column_at 14 in
-    column_ring (w ∷ x ∷ (entries m ++ (coordinates c ++ coordinates t))) (M ·ˢᶜ sym_times W C +ˢᶜ sym_times X T) (sym_times W (M ·ˢᶜ C) +ˢᶜ sym_times X T) tt
-
-gather : (c t : Column) (u d n e : ℤ) → times (u *ℤ d) (times n c) +ᶜ times (u *ℤ n *ℤ e *ℤ d) t ≡ times n (times (u *ℤ d) (c +ᶜ times e t))
-unfolding ◌+ᶜ◌ times
-gather c t u d n e =
-    let U = var 0 in
-    let D = var 1 in
-    let N = var 2 in
-    let E = var 3 in
-    let C = column_at 4 in
-    let T = column_at 7 in
-    column_ring (u ∷ d ∷ n ∷ e ∷ (coordinates c ++ coordinates t)) (sym_times (U ⊗ D) (sym_times N C) +ˢᶜ sym_times (U ⊗ N ⊗ E ⊗ D) T) (sym_times N (sym_times (U ⊗ D) (C +ˢᶜ sym_times E T))) tt
-
--- what the average makes of it
-row_image : (m : Matrix) (p z t : Column) (u d n e : ℤ) → times (u *ℤ n *ℤ e) p ≡ times (u *ℤ d) (times u (m ·ᶜ z) +ᶜ times e t) → m · m ≡ scaled n m → m ·ᶜ t ≡ origin
-    → times (u *ℤ n *ℤ e) (m ·ᶜ p +ᶜ times d t) ≡ times (u *ℤ n *ℤ e) (times n p)
-row_image m p z t u d n e h mm mt =
-    spread_out m p t (u *ℤ n *ℤ e) d ∙ ap (λ v. m ·ᶜ v +ᶜ times (u *ℤ n *ℤ e *ℤ d) t) h ∙ pull m (times u (m ·ᶜ z) +ᶜ times e t) t (u *ℤ d) (u *ℤ n *ℤ e *ℤ d)
-    ∙ ap (λ v. times (u *ℤ d) v +ᶜ times (u *ℤ n *ℤ e *ℤ d) t) (taken m z t u e n mm mt) ∙ gather (times u (m ·ᶜ z)) t u d n e ∙ ap (times n) (sym h) ∙ swap_times n (u *ℤ n *ℤ e) p
+row_numbers : (u d n e : ℤ) → u *ℤ n *ℤ e *ℤ d ≡ u *ℤ d *ℤ (n *ℤ e)
+row_numbers u d n e = ring (u ∷ d ∷ n ∷ e ∷ []) (var 0 ⊗ var 2 ⊗ var 3 ⊗ var 1) (var 0 ⊗ var 1 ⊗ (var 2 ⊗ var 3)) tt
 
 row_here : (m : Matrix) (p t j : Column) (u d n : ℤ) → times (u *ℤ d) (times u (m ·ᶜ p) +ᶜ times (u *ℤ d) (t +ᶜ times (u *ℤ n) j) +ᶜ times (u *ℤ n *ℤ (u *ℤ d)) (neg_column j)) ≡ times (u *ℤ d) (times u (m ·ᶜ p +ᶜ times d t))
 unfolding ◌·ᶜ◌ ◌+ᶜ◌ times neg_column
@@ -178,7 +125,7 @@ module _ (L : SpaceGroup) where
   -- a point of a row, moved by whole cells, lies in the image of the average of which the row has the key
   pub lies_moved : (a : Block) (p : Key) (y : ScaledPoint) → a.n ≡ pos (length members) → block_times a a ≡ block_scaled a.n a → key_of unit (length members) a ≡ p → Lies unit (length members) p (point_of unit y)
       → (k : Column) × IsInImage a (moved (shift_by unit k) y)
-  unfolding key_of row_point moved
+  unfolding key_of row_point moved block_on vector_scaled
   lies_moved a p y number two e h =
       let n = length members in
       let j = modulo_is (unit * n) (positive_product unit n some some_members) a.t in
@@ -186,16 +133,11 @@ module _ (L : SpaceGroup) where
       let u = pos unit in
       let w : ℤ = u *ℤ pos n *ℤ z.d in
       let k : Column = neg_column (h.whole +ᶜ j.0) in
-      let c : Column = times u (a.m ·ᶜ z.n) in
       let m : p.m ≡ a.m = ap (λ (v : Key). v.m) (sym e) in
       let t : p.t ≡ a.t +ᶜ times (u *ℤ pos n) j.0 = ap (λ (v : Key). v.t) (sym e) ∙ j.1 in
-      let cross : times w y.n ≡ times (u *ℤ pos y.d) (c +ᶜ times z.d (a.t +ᶜ times (u *ℤ pos n) j.0) +ᶜ times w h.whole) =
-      h.equal ∙ ap₂ (λ x v. times (u *ℤ pos y.d) (times u (x ·ᶜ z.n) +ᶜ times z.d v +ᶜ times w h.whole)) m t in
-      let f = row_moved y.n c a.t j.0 h.whole u (pos y.d) (pos n) z.d cross in
-      let mm : a.m · a.m ≡ scaled (pos n) a.m = matrix_part a two ∙ ap (λ v. scaled v a.m) number in
-      let q = row_image a.m _ z.n a.t u (pos y.d) (pos n) z.d f mm (translation_part a two) in
-      let moved_n : Column = identity ·ᶜ y.n +ᶜ times (pos y.d) (times u k) in
-      (k, cancel_column w _ _ (positive_times (unit * n) z.d (positive_product unit n some some_members) h.is_point) (q ∙ ap (λ v. times w (times v moved_n)) (sym number)))
+      let cross = h.equal ∙ ap₂ (λ x v. times (u *ℤ pos y.d) (times u (x ·ᶜ z.n) +ᶜ times z.d v +ᶜ times w h.whole)) m t in
+      let there = vector_path _ _ (row_moved a.m y.n z.n a.t j.0 h.whole u (pos y.d) (pos n) z.d cross) (row_numbers u (pos y.d) (pos n) z.d ∙ ap (λ v. u *ℤ pos y.d *ℤ (v *ℤ z.d)) (sym number)) in
+      (k, on_image a (moved (shift_by unit k) y) (row_image a (record { p = times u z.n; d = z.d }) (vec (moved (shift_by unit k) y)) w (u *ℤ pos y.d) (positive_times (unit * n) z.d (positive_product unit n some some_members) h.is_point) two there))
 
   -- a point of the image lies on the row
   pub image_lies : (a : Block) (p : Key) (y : ScaledPoint) → a.n ≡ pos (length members) → key_of unit (length members) a ≡ p → IsInImage a y → Lies unit (length members) p (point_of unit y)
