@@ -11,11 +11,11 @@ use Rattle.lattice_algebra.proofs.Operators.{operators}
 use Rattle.finite_groups.specs.Groups.{Group}
 use Rattle.finite_groups.specs.Words.{IsClosedList}
 use Rattle.finite_groups.proofs.Members as lists
-use Rattle.space_groups.specs.Space.{IsElement, ScaledPoint, moved}
+use Rattle.space_groups.specs.Space.{IsMembers, IsElement, ScaledPoint, moved}
 use Rattle.space_groups.specs.Averages.{Block, block_of, block_plus, block_scaled, block_times, IsMean, IsInImage}
 use Rattle.space_groups.specs.Keys.{carried, Key, key_of, ComesBefore, IsKey}
 use Rattle.space_groups.specs.Rows.{IsTable}
-use Rattle.space_groups.specs.Search.{IsSub, IsFull, Kept, IsKept, IsDone, IsSearch, IsMembers, row_of}
+use Rattle.space_groups.specs.Search.{IsSub, IsFull, Kept, IsKept, IsDone, IsSearch, row_of}
 use Rattle.space_groups.proofs.ScaledPoints.{moved-identity}
 use Rattle.space_groups.proofs.Blocks.{times_identity, block_of-∘}
 use Rattle.space_groups.proofs.Elements.{SpaceGroup, space}

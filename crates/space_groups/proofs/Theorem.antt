@@ -3,8 +3,9 @@ use Rattle.std.proofs.Common.{ℕ, ◌<◌, List}
 use Rattle.std.proofs.lemmas.Map.Made.{IsDistinct-from_AllPairs}
 use Rattle.lattice_algebra.specs.Operator.{Operator}
 use Rattle.lattice_algebra.proofs.Operators.{operators}
+use Rattle.space_groups.specs.Space.{IsMembers}
 use Rattle.space_groups.specs.Rows.{Row, IsTable, IsRowList}
-use Rattle.space_groups.specs.Search.{Kept, IsSearch, IsMembers}
+use Rattle.space_groups.specs.Search.{Kept, IsSearch}
 use Rattle.space_groups.proofs.Elements.{SpaceGroup}
 use Rattle.space_groups.proofs.Search.{search_table, search_row_list}
 

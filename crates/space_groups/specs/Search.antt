@@ -1,7 +1,7 @@
 -- What a search for the rows of the table keeps, and when it is done. This project's own.
 use Rattle.std.specs.Prelude.{◌≡◌, ℕ, ◌*◌, ◌<◌, ◌≢◌, ◌↔◌, List, [], ◌∷◌, length, All, AllPairs, Contains}
 use Rattle.lattice_algebra.specs.Matrix.{Matrix}
-use Rattle.lattice_algebra.specs.Operator.{Operator, IsOperator, identity_operator, product, HasEntriesWithin}
+use Rattle.lattice_algebra.specs.Operator.{Operator}
 use Rattle.lattice_algebra.specs.Map.{Map, ◌∘◌, identity_map}
 use Rattle.space_groups.specs.Space.{IsElement, ScaledPoint, moved}
 use Rattle.space_groups.specs.Averages.{Block, IsMean, IsInImage}
@@ -72,11 +72,3 @@ pub record IsSearch (unit : ℕ) (members : List Operator) (kept : List Kept) (r
   pub done : All (IsDone unit members kept) kept
   pub rows_are : (row : Row) → Contains rows row ↔ ((k : Kept) × Contains kept k × (row_of k ≡ row))
   pub ordered : AllPairs IsRowBefore rows
-
--- the operators of a group modulo the cell, each once, with matrices whose entries are of size at most 2
-pub record IsMembers (unit : ℕ) (members : List Operator) : Type 0 where
-  pub operators : All (IsOperator unit) members
-  pub once : AllPairs (λ f g. f ≢ g) members
-  pub identity : Contains members identity_operator
-  pub products : (f g : Operator) → Contains members f → Contains members g → Contains members (product unit f g)
-  pub narrow : (f : Operator) → Contains members f → HasEntriesWithin 2 f.w

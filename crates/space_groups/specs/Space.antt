@@ -1,10 +1,17 @@
 -- The space group of a list of operators, site-symmetry groups, orbits and conjugate points. International Tables A.
-use Rattle.std.specs.Prelude.{◌≡◌, ℕ, ◌<◌, pos, ◌*ℤ◌, ◌≤ℤ◌, ◌<ℤ◌, ◌↔◌, List}
-use Rattle.std.specs.List.{Contains}
+use Rattle.std.specs.Prelude.{◌≡◌, ◌≢◌, ℕ, ◌<◌, pos, ◌*ℤ◌, ◌≤ℤ◌, ◌<ℤ◌, ◌↔◌, List, All, AllPairs, Contains}
 use Rattle.lattice_algebra.specs.Matrix.{Column, ◌·ᶜ◌, ◌+ᶜ◌, times}
-use Rattle.lattice_algebra.specs.Operator.{Operator}
+use Rattle.lattice_algebra.specs.Operator.{Operator, IsOperator, identity_operator, product, HasEntriesWithin}
 use Rattle.lattice_algebra.specs.Map.{Map, ◌∘◌, AreInverse, operator_of}
 use Rattle.lattice_algebra.specs.Point.{Point, ◌≈◌, image}
+
+-- the operators of a group modulo the cell, each once, with matrices whose entries are of size at most 2
+pub record IsMembers (unit : ℕ) (members : List Operator) : Type 0 where
+  pub operators : All (IsOperator unit) members
+  pub once : AllPairs (λ f g. f ≢ g) members
+  pub identity : Contains members identity_operator
+  pub products : (f g : Operator) → Contains members f → Contains members g → Contains members (product unit f g)
+  pub narrow : (f : Operator) → Contains members f → HasEntriesWithin 2 f.w
 
 -- g is an element of the space group: the map of a member, with whole shifts
 abbrev pub IsElement : ℕ → List Operator → Map → Type 0
