@@ -1,4 +1,5 @@
 -- What a closed list and one more element generate: the points that it fixes, and when it is finite.
+-- For the search to come: what a kept set and one more element make.
 use Rattle.std.proofs.Common.{◌≡◌, ◌∷◌, [], ◌↔◌, List, fold, All, Contains, ap, sym, ◌∙◌, subst, ⊎_elim}
 use Rattle.std.proofs.lemmas.List.Elements.{All-contains, All-head, All-tail}
 use Rattle.lattice_algebra.specs.Map.{Map, ◌∘◌, identity_map, undo}

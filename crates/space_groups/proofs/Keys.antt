@@ -1,4 +1,5 @@
 -- Keys: two averages have one key exactly where an element carries the image of one onto that of the other; and finitely many elements are enough to find the key.
+-- For the search to come: `key_from_candidates`, by which it finds the key of an average.
 use Rattle.std.proofs.Common.{◌≡◌, ◌++◌, ◌∷◌, [], ℕ, ◌*◌, ◌<◌, inl, inr, ⊎_elim, ◌↔◌, List, ℤ, pos, ◌*ℤ◌, Contains, ap, ap₂, sym, ◌∙◌, refl, subst}
 use Rattle.lattice_algebra.specs.Matrix.{Matrix, Column, entries, coordinates, ◌·◌, ◌·ᶜ◌, ◌+ᶜ◌, neg_column, times, scaled, origin, det, adjugate, matrix_of, column_of}
 use Rattle.lattice_algebra.specs.Operator.{Operator, modulo, AreParts}

@@ -1,4 +1,5 @@
 -- A set moved by the whole part of its average's translation has small shifts.
+-- For the search to come: how far it has to look.
 use Rattle.std.proofs.Common.{◌≡◌, ◌++◌, ◌∷◌, ℕ, ◌+◌, ◌*◌, ◌<◌, ◌≤◌, ℤ, pos, ◌+ℤ◌, ◌*ℤ◌, neg_ℤ, unsigned_abs, ap, ap₂, sym, ◌∙◌, arith, mul-le-mul, le_refl}
 use Rattle.std.proofs.lemmas.Int.{ints, unsigned_abs-mul}
 use native.Mathlib.Nat.{le_of_mul-le-mul_left}

@@ -1,4 +1,5 @@
 -- The key of a row is the key of each point that fits it, so the rows are the list of all pairs of a number of images and a key.
+-- For the search to come: `fits_own_key`, by which it finds the row of a point.
 use Rattle.std.proofs.Common.{◌≡◌, ℕ, ◌<◌, ◌↔◌, List, length, map, pos, Contains, ap, sym, ◌∙◌, refl, subst, arith}
 use Rattle.std.specs.List.{IsDistinct}
 use Rattle.std.proofs.lemmas.List.{length-map}
@@ -23,7 +24,7 @@ use Rattle.space_groups.proofs.Blocks.{block_sums, cancel_block}
 use Rattle.space_groups.proofs.Elements.{SpaceGroup, space, on_points}
 use Rattle.space_groups.proofs.Means as means
 use Rattle.space_groups.proofs.Means.{Averaged, sum_is}
-use Rattle.space_groups.proofs.Near.{turned, carried_mean, turned_distinct}
+use Rattle.space_groups.proofs.CarriedLists.{turned, carried_mean, turned_distinct}
 use Rattle.space_groups.proofs.Divided.{mean_exists}
 use Rattle.space_groups.proofs.Sites.{site, site_is, site_distinct, full_of}
 use Rattle.space_groups.proofs.SiteLists.{one_length, site_closed, site_list}

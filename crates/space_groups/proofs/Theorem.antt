@@ -7,7 +7,7 @@ use Rattle.space_groups.specs.Space.{IsMembers}
 use Rattle.space_groups.specs.Rows.{Row, IsTable, IsRowList}
 use Rattle.space_groups.specs.Search.{Kept, IsSearch}
 use Rattle.space_groups.proofs.Elements.{SpaceGroup}
-use Rattle.space_groups.proofs.Search.{search_table, search_row_list}
+use Rattle.space_groups.proofs.FinishedSearch.{search_table, search_row_list}
 
 -- the members as a space group
 abbrev pub space_group : (unit : ℕ) → 0 < unit → (members : List Operator) → IsMembers unit members → SpaceGroup

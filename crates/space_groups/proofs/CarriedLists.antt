@@ -1,4 +1,5 @@
--- A closed list of maps carried by an element: its average goes along, and keeps its key.
+-- A closed list of maps carried by an element, v s v^-1 for each s: its average goes along, and keeps its key.
+-- For the search to come: `key_carried_back`, `turned_closed` and `turned_fixes`, by which it keeps sets near the origin.
 use Rattle.std.proofs.Common.{◌≡◌, ◌∷◌, [], ℕ, ◌↔◌, List, length, map, ℤ, pos, Contains, ap, ap₂, sym, ◌∙◌, subst}
 use Rattle.std.specs.List.{IsDistinct}
 use Rattle.std.proofs.lemmas.List.{length-map}

@@ -1,4 +1,4 @@
--- The theorem: what the search keeps is a table of the space group, for every rational point.
+-- The rows of kept sets are a table of the space group, for every rational point, and its row list.
 use Rattle.std.proofs.Common.{◌≡◌, ℕ, List, length, AllPairs, ap, sym, ◌∙◌, refl, subst}
 use Rattle.std.proofs.lemmas.List.{length-map, get_or_default}
 use Rattle.lattice_algebra.specs.Operator.{Operator}

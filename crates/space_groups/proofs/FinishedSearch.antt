@@ -1,4 +1,4 @@
--- A finished search gives the table, and the row list.
+-- A finished search has one kept set for each row, with what `AreKept` asks: so its rows are the table, and the row list.
 use Rattle.std.proofs.Common.{◌≡◌, List, length, get_or, Contains, ap, sym, ◌∙◌, refl, subst, ⊎_elim}
 use Rattle.std.proofs.lemmas.List.{get_or_default}
 use Rattle.std.proofs.lemmas.List.Elements.{All-contains, Contains-get_or}
@@ -16,7 +16,7 @@ use Rattle.space_groups.proofs.Elements.{SpaceGroup, space}
 use Rattle.space_groups.proofs.Means.{Averaged}
 use Rattle.space_groups.proofs.Ordered.{row_not_itself}
 use Rattle.space_groups.proofs.Rows.{AreNarrow, AreKept, some_members}
-use Rattle.space_groups.proofs.Headline.{table_from_kept, row_list_from_kept}
+use Rattle.space_groups.proofs.TableOfKept.{table_from_kept, row_list_from_kept}
 
 module _ (L : SpaceGroup) where
   open L use {unit, some, members, closed}
