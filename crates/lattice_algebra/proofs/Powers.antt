@@ -2,7 +2,7 @@
 use Rattle.std.proofs.Common.{◌≡◌, ◌++◌, ◌∷◌, ◌⊎◌, inl, inr, ⊎_elim, ℕ, zero, suc, ◌+◌, ◌≤◌, ℤ, pos, negsuc, ◌+ℤ◌, ◌*ℤ◌, unsigned_abs, ap, ap₂, sym, ◌∙◌, refl, arith, add-one}
 use Rattle.std.proofs.lemmas.Int.{ints}
 use Rattle.lattice_algebra.specs.Matrix.{Matrix, Column, entries, coordinates, ◌·◌, ◌·ᶜ◌, ◌+ᶜ◌, ◌+ᵐ◌, times, scaled, identity, no_matrix}
-use Rattle.lattice_algebra.specs.Operator.{HasEntriesWithin}
+use Rattle.lattice_algebra.specs.Operator.{AreWithin, HasEntriesWithin}
 use Rattle.lattice_algebra.specs.Powers.{power, sum_of_powers}
 use Rattle.lattice_algebra.proofs.Ring.{var, con, ◌⊕◌, ◌⊗◌}
 use Rattle.lattice_algebra.proofs.MatrixRing.{matrix_at, column_at, ◌·ˢ◌, ◌·ˢᶜ◌, ◌+ˢ◌, ◌+ˢᶜ◌, sym_scaled, sym_times, sym_identity, sym_nothing, matrix_ring, column_ring}
@@ -31,22 +31,12 @@ swap a b c =
 unfolding ◌·◌ ◌+ᵐ◌
 ·-no_matrix a = matrix_ring (entries a) (matrix_at 0 ·ˢ sym_nothing +ˢ sym_identity) (sym_nothing +ˢ sym_identity) tt
 
-same_number : (x y z : ℤ) → x +ℤ z ≡ y +ℤ z → x ≡ y
-same_number x y z e = omega (arith, ints)
+without : (a c : Matrix) → (a +ᵐ c) +ᵐ scaled (negsuc 0) c ≡ a
+unfolding ◌+ᵐ◌ scaled
+without a c = let z = matrix_at 9 in matrix_ring (entries a ++ entries c) (matrix_at 0 +ˢ z +ˢ sym_scaled (con (negsuc 0)) z) (matrix_at 0) tt
 
 cancel_sum : (a b c : Matrix) → a +ᵐ c ≡ b +ᵐ c → a ≡ b
-unfolding ◌+ᵐ◌
-cancel_sum a b c e = λ i. record {
-  xx = same_number a.xx b.xx c.xx (ap (λ (m : Matrix). m.xx) e) i;
-  xy = same_number a.xy b.xy c.xy (ap (λ (m : Matrix). m.xy) e) i;
-  xz = same_number a.xz b.xz c.xz (ap (λ (m : Matrix). m.xz) e) i;
-  yx = same_number a.yx b.yx c.yx (ap (λ (m : Matrix). m.yx) e) i;
-  yy = same_number a.yy b.yy c.yy (ap (λ (m : Matrix). m.yy) e) i;
-  yz = same_number a.yz b.yz c.yz (ap (λ (m : Matrix). m.yz) e) i;
-  zx = same_number a.zx b.zx c.zx (ap (λ (m : Matrix). m.zx) e) i;
-  zy = same_number a.zy b.zy c.zy (ap (λ (m : Matrix). m.zy) e) i;
-  zz = same_number a.zz b.zz c.zz (ap (λ (m : Matrix). m.zz) e) i;
-}
+cancel_sum a b c e = sym (without a c) ∙ ap (λ m. m +ᵐ scaled (negsuc 0) c) e ∙ without b c
 
 -- ---- powers
 
@@ -155,30 +145,18 @@ power-opposite w (suc k) =
 
 -- ---- sizes
 
-opposite_within : (n : ℕ) (x : ℤ) → unsigned_abs x ≤ n → unsigned_abs (negsuc 0 *ℤ x) ≤ n
-opposite_within n x h = omega (arith, ints)
+-- what f makes of two rows, number by number, where it takes numbers within j and k to one within n
+row_within : {j k n : ℕ} (f : ℤ → ℤ → ℤ) → ((x y : ℤ) → unsigned_abs x ≤ j → unsigned_abs y ≤ k → unsigned_abs (f x y) ≤ n) → (a b c x y z : ℤ) → AreWithin j a b c → AreWithin k x y z → AreWithin n (f a x) (f b y) (f c z)
+row_within f s a b c x y z p q = record { first = s a x p.first q.first; second = s b y p.second q.second; third = s c z p.third q.third }
+
+each_within : {j k n : ℕ} (f : ℤ → ℤ → ℤ) → ((x y : ℤ) → unsigned_abs x ≤ j → unsigned_abs y ≤ k → unsigned_abs (f x y) ≤ n) → (a b : Matrix) → HasEntriesWithin j a → HasEntriesWithin k b
+    → HasEntriesWithin n (record { xx = f a.xx b.xx; xy = f a.xy b.xy; xz = f a.xz b.xz; yx = f a.yx b.yx; yy = f a.yy b.yy; yz = f a.yz b.yz; zx = f a.zx b.zx; zy = f a.zy b.zy; zz = f a.zz b.zz })
+each_within f s a b p q = record { x = row_within f s a.xx a.xy a.xz b.xx b.xy b.xz p.x q.x; y = row_within f s a.yx a.yy a.yz b.yx b.yy b.yz p.y q.y; z = row_within f s a.zx a.zy a.zz b.zx b.zy b.zz p.z q.z }
 
 pub within-opposite : (n : ℕ) (m : Matrix) → HasEntriesWithin n m → HasEntriesWithin n (scaled (negsuc 0) m)
 unfolding scaled
-within-opposite n m h =
-    let x = h.x in
-    let y = h.y in
-    let z = h.z in
-    record {
-      x = record { first = opposite_within n m.xx x.first; second = opposite_within n m.xy x.second; third = opposite_within n m.xz x.third };
-      y = record { first = opposite_within n m.yx y.first; second = opposite_within n m.yy y.second; third = opposite_within n m.yz y.third };
-      z = record { first = opposite_within n m.zx z.first; second = opposite_within n m.zy z.second; third = opposite_within n m.zz z.third };
-    }
-
-sum_within : (j k n : ℕ) (x y : ℤ) → unsigned_abs x ≤ j → unsigned_abs y ≤ k → j + k ≡ n → unsigned_abs (x +ℤ y) ≤ n
-sum_within j k n x y p q e = omega (arith, abs_add x y)
+within-opposite n m h = each_within (λ x y. negsuc 0 *ℤ x) (λ x y p q. let l : unsigned_abs (negsuc 0 *ℤ x) ≤ n = omega (arith, ints) in l) m m h h
 
 pub within-+ᵐ : (j k n : ℕ) (a b : Matrix) → HasEntriesWithin j a → HasEntriesWithin k b → j + k ≡ n → HasEntriesWithin n (a +ᵐ b)
 unfolding ◌+ᵐ◌
-within-+ᵐ j k n a b p q e =
-    let s = sum_within j k n in
-    record {
-      x = record { first = s a.xx b.xx p.x.first q.x.first e; second = s a.xy b.xy p.x.second q.x.second e; third = s a.xz b.xz p.x.third q.x.third e };
-      y = record { first = s a.yx b.yx p.y.first q.y.first e; second = s a.yy b.yy p.y.second q.y.second e; third = s a.yz b.yz p.y.third q.y.third e };
-      z = record { first = s a.zx b.zx p.z.first q.z.first e; second = s a.zy b.zy p.z.second q.z.second e; third = s a.zz b.zz p.z.third q.z.third e };
-    }
+within-+ᵐ j k n a b p q e = each_within (λ x y. x +ℤ y) (λ x y l m. let t : unsigned_abs (x +ℤ y) ≤ n = omega (arith, abs_add x y) in t) a b p q
