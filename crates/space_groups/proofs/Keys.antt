@@ -4,8 +4,8 @@ use Rattle.std.proofs.Common.{◌≡◌, ◌++◌, ◌∷◌, [], ℕ, ◌*◌, 
 use Rattle.lattice_algebra.specs.Matrix.{Matrix, Column, entries, coordinates, ◌·◌, ◌·ᶜ◌, ◌+ᶜ◌, neg_column, times, scaled, origin, det, adjugate, matrix_of, column_of}
 use Rattle.lattice_algebra.specs.Operator.{Operator, modulo, AreParts}
 use Rattle.lattice_algebra.specs.Map.{Map, ◌∘◌, undo, operator_of}
-use Rattle.lattice_algebra.proofs.Ring.{var, con, ◌⊗◌, ring}
-use Rattle.lattice_algebra.proofs.MatrixRing.{matrix_at, column_at, ◌·ˢ◌, ◌·ˢᶜ◌, ◌+ˢᶜ◌, sym_times, sym_neg, sym_scaled, sym_identity, sym_origin, column_ring, matrix_ring}
+use Rattle.lattice_algebra.proofs.Ring.{var, con, ◌⊗◌}
+use Rattle.lattice_algebra.proofs.MatrixRing.{SymColumn, matrix_at, column_at, ◌·ˢ◌, ◌·ˢᶜ◌, ◌+ˢᶜ◌, sym_times, sym_neg, sym_scaled, sym_identity, sym_origin, column_ring}
 use Rattle.lattice_algebra.proofs.Remainders.{modulo_is, modulo_same, modulo_parts, whole_part}
 use Rattle.lattice_algebra.proofs.Maps.{map_path, shifted, join_shifts}
 use Rattle.lattice_algebra.proofs.Numbers.{above, positive_product}
@@ -15,6 +15,7 @@ use Rattle.space_groups.specs.Space.{IsElement, ScaledPoint, moved}
 use Rattle.space_groups.specs.Averages.{Block, block_of, block_times, block_scaled, IsInImage}
 use Rattle.space_groups.specs.Regions.{IsWhole, shift_by}
 use Rattle.space_groups.specs.Keys.{carried, Key, key_of, IsBelow, ComesBefore, IsKey}
+use Rattle.space_groups.proofs.BlockRing.{SymBlock, Values, block_at, ◌·ˢᵇ◌, block_value, block_ring}
 use Rattle.space_groups.proofs.Blocks.{block_path, translation_part}
 use Rattle.space_groups.proofs.Elements.{SpaceGroup, space}
 use Rattle.space_groups.proofs.Means as means
@@ -45,9 +46,17 @@ key_path p q e f = λ i. record { m = e i; t = f i }
 
 -- ---- what an element makes of a translation
 
-first_form : (w m : Matrix) (t s v j : Column) (n u : ℤ) → (w · m) ·ᶜ v +ᶜ times (pos 1) (w ·ᶜ t +ᶜ times n s) ≡ (w · m) ·ᶜ v +ᶜ times (pos 1) (w ·ᶜ (t +ᶜ times u j) +ᶜ times n s) +ᶜ times u (w ·ᶜ neg_column j)
-unfolding ◌·◌ ◌·ᶜ◌ ◌+ᶜ◌ times neg_column
-first_form w m t s v j n u =
+-- blocks with one key have translations that differ by whole numbers
+shift_between : (unit n : ℕ) → 0 < unit * n → (a b : Block) → key_of unit n a ≡ key_of unit n b → (k : Column) × (b.t ≡ a.t +ᶜ times (pos (unit * n)) k)
+unfolding key_of
+shift_between unit n h a b e =
+    let i = modulo_is (unit * n) h a.t in
+    let j = modulo_is (unit * n) h b.t in
+    (i.0 +ᶜ neg_column j.0, difference b.t a.t j.0 i.0 (pos (unit * n)) (sym (sym i.1 ∙ ap (λ (v : Key). v.t) e ∙ j.1)))
+
+rest_form : (w m : Matrix) (t s v k : Column) (n u : ℤ) → (w · m) ·ᶜ v +ᶜ times (pos 1) (w ·ᶜ (t +ᶜ times u k) +ᶜ times n s) ≡ (w · m) ·ᶜ v +ᶜ times (pos 1) (w ·ᶜ t +ᶜ times n s) +ᶜ times u (w ·ᶜ k)
+unfolding ◌·◌ ◌·ᶜ◌ ◌+ᶜ◌ times
+rest_form w m t s v k n u =
     let N = var 0 in
     let U = var 1 in
     let W = matrix_at 2 in
@@ -55,47 +64,22 @@ first_form w m t s v j n u =
     let T = column_at 20 in
     let S = column_at 23 in
     let V = column_at 26 in
-    let J = column_at 29 in
+    let K = column_at 29 in
     let one = con (pos 1) in
-    column_ring (n ∷ u ∷ (entries w ++ (entries m ++ (coordinates t ++ (coordinates s ++ (coordinates v ++ coordinates j))))))
-    ((W ·ˢ M) ·ˢᶜ V +ˢᶜ sym_times one (W ·ˢᶜ T +ˢᶜ sym_times N S))
-    ((W ·ˢ M) ·ˢᶜ V +ˢᶜ sym_times one (W ·ˢᶜ (T +ˢᶜ sym_times U J) +ˢᶜ sym_times N S) +ˢᶜ sym_times U (W ·ˢᶜ sym_neg J))
+    column_ring (n ∷ u ∷ (entries w ++ (entries m ++ (coordinates t ++ (coordinates s ++ (coordinates v ++ coordinates k))))))
+    ((W ·ˢ M) ·ˢᶜ V +ˢᶜ sym_times one (W ·ˢᶜ (T +ˢᶜ sym_times U K) +ˢᶜ sym_times N S))
+    ((W ·ˢ M) ·ˢᶜ V +ˢᶜ sym_times one (W ·ˢᶜ T +ˢᶜ sym_times N S) +ˢᶜ sym_times U (W ·ˢᶜ K))
     tt
 
-second_form : (w m : Matrix) (t s v j k : Column) (n u : ℤ) → (w · m) ·ᶜ v +ᶜ times (pos 1) (w ·ᶜ (t +ᶜ times u k) +ᶜ times n s) +ᶜ times u (w ·ᶜ neg_column j) ≡ (w · m) ·ᶜ v +ᶜ times (pos 1) (w ·ᶜ t +ᶜ times n s) +ᶜ times u (w ·ᶜ (k +ᶜ neg_column j))
-unfolding ◌·◌ ◌·ᶜ◌ ◌+ᶜ◌ times neg_column
-second_form w m t s v j k n u =
-    let N = var 0 in
-    let U = var 1 in
-    let W = matrix_at 2 in
-    let M = matrix_at 11 in
-    let T = column_at 20 in
-    let S = column_at 23 in
-    let V = column_at 26 in
-    let J = column_at 29 in
-    let K = column_at 32 in
-    let one = con (pos 1) in
-    column_ring (n ∷ u ∷ (entries w ++ (entries m ++ (coordinates t ++ (coordinates s ++ (coordinates v ++ (coordinates j ++ coordinates k)))))))
-    ((W ·ˢ M) ·ˢᶜ V +ˢᶜ sym_times one (W ·ˢᶜ (T +ˢᶜ sym_times U K) +ˢᶜ sym_times N S) +ˢᶜ sym_times U (W ·ˢᶜ sym_neg J))
-    ((W ·ˢ M) ·ˢᶜ V +ˢᶜ sym_times one (W ·ˢᶜ T +ˢᶜ sym_times N S) +ˢᶜ sym_times U (W ·ˢᶜ (K +ˢᶜ sym_neg J)))
-    tt
-
--- where translations differ by whole numbers, so do those of the conjugates
+-- so do those of the conjugates
 pub carried_rest : (unit n : ℕ) → 0 < unit * n → (g : Map) (a b : Block) → a.n ≡ b.n → key_of unit n a ≡ key_of unit n b → key_of unit n (carried g a) ≡ key_of unit n (carried g b)
 unfolding key_of carried block_times block_of
 carried_rest unit n h g a b number e =
-    let j = modulo_is (unit * n) h a.t in
-    let k = modulo_is (unit * n) h b.t in
+    let k = shift_between unit n h a b e in
     let m : a.m ≡ b.m = ap (λ (p : Key). p.m) e in
-    let t : a.t +ᶜ times (pos (unit * n)) j.0 ≡ b.t +ᶜ times (pos (unit * n)) k.0 = sym j.1 ∙ ap (λ (p : Key). p.t) e ∙ k.1 in
-    let v = (undo g).w in
-    let s = (undo g).s in
-    key_path _ _ (ap (λ x. g.w · x · v) m)
-    (modulo_same (unit * n) h _ _ (g.w ·ᶜ (k.0 +ᶜ neg_column j.0))
-    (first_form g.w a.m a.t g.s s j.0 a.n (pos (unit * n))
-    ∙ ap₂ (λ x y. (g.w · x) ·ᶜ s +ᶜ times (pos 1) (g.w ·ᶜ y +ᶜ times a.n g.s) +ᶜ times (pos (unit * n)) (g.w ·ᶜ neg_column j.0)) m t
-    ∙ second_form g.w b.m b.t g.s s j.0 k.0 a.n (pos (unit * n))
-    ∙ ap (λ x. (g.w · b.m) ·ᶜ s +ᶜ times (pos 1) (g.w ·ᶜ b.t +ᶜ times x g.s) +ᶜ times (pos (unit * n)) (g.w ·ᶜ (k.0 +ᶜ neg_column j.0))) number))
+    let v = undo g in
+    let split : b ≡ record { m = a.m; t = a.t +ᶜ times (pos (unit * n)) k.0; n = a.n } = block_path _ _ (sym m) k.1 (sym number) in
+    sym (ap (λ c. key_of unit n (carried g c)) split ∙ key_path _ _ refl (modulo_same (unit * n) h _ _ (g.w ·ᶜ k.0) (rest_form g.w a.m a.t g.s v.s k.0 a.n (pos (unit * n)))))
 
 -- ---- what a whole shift makes of an average
 
@@ -108,21 +92,14 @@ unfoldable pub shifted_block : ℤ → Column → Block → Block
 shifted_block u k a = record { m = a.m; t = a.t +ᶜ (times (u *ℤ a.n) k +ᶜ neg_column (times u (a.m ·ᶜ k))); n = a.n }
 
 pub carried_shift : (unit : ℕ) (k : Column) (a : Block) → carried (shift_by unit k) a ≡ shifted_block (pos unit) k a
-unfolding carried shifted_block block_times block_of ◌·◌ ◌·ᶜ◌ ◌+ᶜ◌ times neg_column
+unfolding carried shifted_block block_value neg_column
 carried_shift unit k a =
-    let r = pos unit ∷ a.n ∷ (entries a.m ++ (coordinates a.t ++ coordinates k)) in
     let U = var 0 in
-    let N = var 1 in
-    let M = matrix_at 2 in
-    let T = column_at 11 in
+    let A = block_at 1 in
     let K = column_at 14 in
-    let I = sym_identity in
-    let one = con (pos 1) in
+    let shift : SymColumn → SymBlock = λ c. record { m = sym_identity; t = sym_times U c; n = con (pos 1) } in
     ap (λ h. block_times (block_times (block_of (shift_by unit k)) a) (block_of h)) (undo_shift unit k)
-    ∙ block_path _ _
-    (matrix_ring r ((I ·ˢ M) ·ˢ I) M tt)
-    (column_ring r ((I ·ˢ M) ·ˢᶜ sym_times U (sym_neg K) +ˢᶜ sym_times one (I ·ˢᶜ T +ˢᶜ sym_times N (sym_times U K))) (T +ˢᶜ (sym_times (U ⊗ N) K +ˢᶜ sym_neg (sym_times U (M ·ˢᶜ K)))) tt)
-    (ring r ((one ⊗ N) ⊗ one) N tt)
+    ∙ block_ring (pos unit ∷ (Values a ++ coordinates k)) (shift K ·ˢᵇ A ·ˢᵇ shift (sym_neg K)) (record { m = A.m; t = A.t +ˢᶜ (sym_times (U ⊗ A.n) K +ˢᶜ sym_neg (sym_times U (A.m ·ˢᶜ K))); n = A.n }) tt
 
 spread : (m : Matrix) (t j : Column) (u : ℤ) → times u (m ·ᶜ j) ≡ m ·ᶜ (t +ᶜ times u j) +ᶜ neg_column (m ·ᶜ t)
 unfolding ◌·ᶜ◌ ◌+ᶜ◌ times neg_column
@@ -145,12 +122,11 @@ pub same_by_shift : (unit n : ℕ) → 0 < unit → 0 < n → (a b : Block) → 
 unfolding key_of shifted_block
 same_by_shift unit n hu hn a b p q two two' e =
     let h = positive_product unit n hu hn in
-    let i = modulo_is (unit * n) h a.t in
-    let j = modulo_is (unit * n) h b.t in
     let un : ℤ = pos (unit * n) in
     let m : a.m ≡ b.m = ap (λ (v : Key). v.m) e in
-    let k : Column = i.0 +ᶜ neg_column j.0 in
-    let t : b.t ≡ a.t +ᶜ times un k = difference b.t a.t j.0 i.0 un (sym (sym i.1 ∙ ap (λ (v : Key). v.t) e ∙ j.1)) in
+    let between = shift_between unit n h a b e in
+    let k : Column = between.0 in
+    let t : b.t ≡ a.t +ᶜ times un k = between.1 in
     let there : a.m ·ᶜ (a.t +ᶜ times un k) ≡ origin = ap₂ (λ x y. x ·ᶜ y) m (sym t) ∙ translation_part b two' in
     let none : a.m ·ᶜ k ≡ origin = cancel_column un _ _ (above (unit * n) h) (spread a.m a.t k un ∙ ap₂ (λ x y. x +ᶜ neg_column y) there (translation_part a two) ∙ no_change un) in (
       k,
