@@ -10,7 +10,6 @@ pub mod RowSizes
 pub mod Regions
 pub mod Generic
 pub mod Keys
-
 -- site-symmetry groups and orbits
 pub mod Sites
 pub mod Orbits
@@ -19,7 +18,6 @@ pub mod SiteLists
 pub mod OrbitLists
 pub mod Divided
 pub mod Laws
-
 -- the theorem: the rows of a finished search are the table
 pub mod Rows
 pub mod PointKeys
@@ -28,7 +26,6 @@ pub mod Ordered
 pub mod FinishedSearch
 pub mod Theorem
 mod OneOperator
-
 -- for the search to come: nothing cites these two yet, nor what the heads of Keys, PointKeys and CarriedLists name
 pub mod Growing
 pub mod NearOrigin
