@@ -9,6 +9,7 @@ use Rattle.exact_ops.specs.Operator.{Operator, modulo}
 use Rattle.exact_ops.specs.Numbers.{numbers}
 use Rattle.exact_ops.specs.declared.raw.Raw.{Raw}
 use Rattle.triplet_text.specs.declared.component.Component.{Component}
+use Rattle.triplet_text.specs.declared.triplet.TheConstants.{LINE_LENGTH}
 use Rattle.triplet_text.specs.Bytes.{is_quote, comma}
 use Rattle.triplet_text.specs.Pieces.{trim, cut, unquoted}
 use Rattle.triplet_text.specs.Sums.{sum_of}
@@ -180,7 +181,7 @@ unquotes line = unquotes_from line (trim line) refl
 -- ---- lines
 
 pub triplet_to : (line : List ℕ) (f : Operator) → IsTriplet line f → triplet_of line ≡ Some f
-triplet_to line f t = rw (le-leb _ 255 t.short) (by t.within)
+triplet_to line f t = rw (le-leb _ LINE_LENGTH t.short) (by t.within)
   where
     by : IsWithin line t.text → components_of (trim (unquoted (trim line))) ≡ Some f
     by (inl q) = ap (λ (s : List ℕ). components_of (trim s)) (quoted_is line t.text q) ∙ sums_to (trim t.text) t.tokens f t.sums (trimmed_has t.text t.tokens t.has_tokens)
@@ -193,7 +194,7 @@ triplet_to line f t = rw (le-leb _ 255 t.short) (by t.within)
 
 pub triplet_from : (line : List ℕ) (f : Operator) → triplet_of line ≡ Some f → IsTriplet line f
 triplet_from line f e =
-    let h = if_some (leb (length line) 255) (components_of (trim (unquoted (trim line)))) f e in
+    let h = if_some (leb (length line) LINE_LENGTH) (components_of (trim (unquoted (trim line)))) f e in
     let s = sums_from (trim (unquoted (trim line))) f h.1 in
     let short = leb-true _ _ h.0 in
     elim (unquotes line) [
@@ -221,8 +222,8 @@ pub read_none : (line : List ℕ) (o : Option Raw) → option_map numbers o ≡ 
 read_none line None e = λ f t. let k = triplet_to line f t in absurd cc
 read_none line (Some raw) e = tt
 
-pub too_long : (line : List ℕ) → 255 < length line → (f : Operator) → ¬ IsTriplet line f
+pub too_long : (line : List ℕ) → LINE_LENGTH < length line → (f : Operator) → ¬ IsTriplet line f
 too_long line long f t = omega (arith, t.short)
 
-pub short_enough : (line : List ℕ) → length line ≤ 255 → components_of (trim (unquoted (trim line))) ≡ triplet_of line
-short_enough line short = rw (le-leb _ 255 short) refl
+pub short_enough : (line : List ℕ) → length line ≤ LINE_LENGTH → components_of (trim (unquoted (trim line))) ≡ triplet_of line
+short_enough line short = rw (le-leb _ LINE_LENGTH short) refl

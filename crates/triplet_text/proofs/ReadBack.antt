@@ -9,6 +9,7 @@ use Rattle.exact_ops.specs.Operator.{Operator, IsPart}
 use Rattle.exact_ops.specs.Narrow.{IsNarrow}
 use Rattle.exact_ops.specs.declared.TheConstants.{UNIT}
 use Rattle.triplet_text.specs.declared.component.Component.{Component}
+use Rattle.triplet_text.specs.declared.triplet.TheConstants.{LINE_LENGTH}
 use Rattle.triplet_text.specs.Bytes.{is_blank, is_quote, comma}
 use Rattle.triplet_text.specs.Pieces.{trim, trim_end, unquoted}
 use Rattle.triplet_text.specs.Sums.{sum_of}
@@ -48,7 +49,7 @@ three_back r s t a b c pr ps pt lr ls lt ea eb ec =
     let solid = commas_between is_blank r s t refl (all_mapped _ _ plain_no_blank r pr) (all_mapped _ _ plain_no_blank s ps) (all_mapped _ _ plain_no_blank t pt) in
     let bare = commas_between is_quote r s t refl (all_mapped _ _ plain_no_quote r pr) (all_mapped _ _ plain_no_quote s ps) (all_mapped _ _ plain_no_quote t pt) in
     let whole : trim (unquoted (trim text)) ≡ text = ap (λ (x : List ℕ). trim (unquoted x)) (trim_kept text solid) ∙ ap trim (quotes_kept text bare) ∙ trim_kept text solid in
-    let short : leb (length text) 255 ≡ true = le-leb _ _ (omega (arith, length-append r (comma ∷ (s ++ comma ∷ t)), length-append s (comma ∷ t))) in
+    let short : leb (length text) LINE_LENGTH ≡ true = le-leb _ _ (omega (arith, length-append r (comma ∷ (s ++ comma ∷ t)), length-append s (comma ∷ t))) in
     let one = cut_first (λ b. eqb b comma) r comma (s ++ comma ∷ t) (all_mapped _ _ plain_no_comma r pr) refl in
     let two = cut_first (λ b. eqb b comma) s comma t (all_mapped _ _ plain_no_comma s ps) refl in
     rw (short, whole) (rw (one, two) (rw (ea, eb, ec) refl))

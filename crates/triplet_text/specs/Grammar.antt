@@ -4,6 +4,7 @@ use Rattle.std.specs.Int.{◌∣◌}
 use Rattle.exact_ops.specs.Operator.{Operator, modulo}
 use Rattle.exact_ops.specs.declared.TheConstants.{UNIT}
 use Rattle.triplet_text.specs.declared.component.Component.{Component}
+use Rattle.triplet_text.specs.declared.triplet.TheConstants.{LINE_LENGTH}
 use Rattle.triplet_text.specs.Bytes.{is_blank, is_digit, is_quote, is_x, is_y, is_z, comma, star, plus_sign, minus_sign, point, stroke, zero_digit}
 use Rattle.triplet_text.specs.Tokens.{Token, Sign, Mark, Letter, Number, Each, HasTokens}
 
@@ -125,9 +126,9 @@ pub record IsQuoted (line text : List ℕ) : Type 0 where
 abbrev pub IsWithin : List ℕ → List ℕ → Type 0
 IsWithin line text = IsQuoted line text ⊎ ((text ≡ line) × ((other : List ℕ) → ¬ IsQuoted line other))
 
--- a line of at most 255 bytes is a triplet that says f where the tokens within it are three sums that say f
+-- a line of at most LINE_LENGTH bytes is a triplet that says f where the tokens within it are three sums that say f
 pub record IsTriplet (line : List ℕ) (f : Operator) : Type 0 where
-  pub short : length line ≤ 255
+  pub short : length line ≤ LINE_LENGTH
   pub text : List ℕ
   pub tokens : List Token
   pub within : IsWithin line text

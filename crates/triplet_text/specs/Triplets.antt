@@ -4,6 +4,7 @@ use Rattle.std.specs.Int.{int_rem_euclid}
 use Rattle.exact_ops.specs.Operator.{Operator}
 use Rattle.exact_ops.specs.declared.TheConstants.{UNIT}
 use Rattle.triplet_text.specs.declared.component.Component.{Component}
+use Rattle.triplet_text.specs.declared.triplet.TheConstants.{LINE_LENGTH}
 use Rattle.triplet_text.specs.Bytes.{comma}
 use Rattle.triplet_text.specs.Pieces.{cut, trim, unquoted}
 use Rattle.triplet_text.specs.Sums.{sum_of}
@@ -27,4 +28,4 @@ components_of text = option_and_then (λ p. option_and_then (λ q. three_sums p.
 
 -- what a line says, where it is in the triplet grammar
 abbrev pub triplet_of : List ℕ → Option Operator
-triplet_of line = if nat_le (length line) 255 then components_of (trim (unquoted (trim line))) else None
+triplet_of line = if nat_le (length line) LINE_LENGTH then components_of (trim (unquoted (trim line))) else None

@@ -1,5 +1,6 @@
-ghost use Rattle.std.specs.Prelude.{◌≡◌, ◌≤◌, length, IfSome, option_and_then};
+ghost use Rattle.std.specs.Prelude.{◌≡◌, ◌+◌, ◌≤◌, length, IfSome, option_and_then};
 ghost use Rattle.std.specs.List.{list_all};
+ghost use Rattle.triplet_text.specs.declared.triplet.TheConstants.{LINE_LENGTH};
 ghost use Rattle.triplet_text.specs.Bytes.{is_blank, is_sign};
 ghost use Rattle.triplet_text.specs.Components.{plus, behind, IsSumOf};
 ghost use Rattle.triplet_text.specs.Sums.{before_sign, behind_signs, StartsWithSign, total, sum_by, sum_of};
@@ -10,9 +11,9 @@ use crate::term::read_term;
 
 /// What a sum says: its terms, added up behind their signs.
 pub fn read_sum(text: &[u8]) -> Option<Component>
-    requires { length text.now ≤ 255 }
+    requires { length text.now ≤ LINE_LENGTH }
     ensures value { result ≡ sum_of text.now }
-    ensures small { IfSome result (IsSumOf 256) }
+    ensures small { IfSome result (IsSumOf (LINE_LENGTH + 1)) }
 {
     let (first, mut rest) = until_sign(text);
     let mut total = first_term(first, rest)?;
@@ -54,7 +55,7 @@ fn first_term(first: &[u8], rest: &[u8]) -> Option<Component>
 
 /// A sum, with one more term behind its sign.
 fn added(total: &Component, sign: u8, term: &Component) -> Component
-    requires total { IsSumOf 511 total.now }
+    requires total { IsSumOf LINE_LENGTH total.now }
     requires term { IsSumOf 1 term.now }
     ensures { result ≡ plus total.now (behind sign term.now) }
 {

@@ -1,4 +1,4 @@
-ghost use Rattle.std.specs.Prelude.{◌≡◌, ◌≤◌, ◌^◌, length, IfSome, IfNone};
+ghost use Rattle.std.specs.Prelude.{◌≡◌, ◌+◌, ◌≤◌, ◌^◌, length, IfSome, IfNone};
 ghost use Rattle.std.specs.Option.{option_map};
 ghost use Rattle.exact_ops.specs.Operator.{Operator, IsPart};
 ghost use Rattle.exact_ops.specs.Numbers.{numbers};
@@ -11,8 +11,11 @@ use crate::pieces::{cut_at, without_blanks, without_quotes};
 use crate::sum::read_sum;
 use exact_ops::{Raw, UNIT};
 
-/// What the line says, such as `-x, y+1/2, 2*z`: None exactly where it is no triplet. A triplet has at most 255 bytes:
-/// three sums with commas between them, in two like quotes or none. A term of a sum is a letter, a digit and a letter
+/// A triplet has at most so many bytes, with its blanks and quotes.
+pub const LINE_LENGTH: usize = 255;
+
+/// What the line says, such as `-x, y+1/2, 2*z`: None exactly where it is no triplet. A triplet has at most
+/// `LINE_LENGTH` bytes: three sums with commas between them, in two like quotes or none. A term of a sum is a letter, a digit and a letter
 /// with a star or none between them, a whole number of cells, a fraction whose denominator divides `UNIT`, or a decimal
 /// that is a whole number of parts of a cell. The sums are the rows of the matrix, and their constants modulo the cell
 /// the translation. docs/formats.md has the whole grammar.
@@ -20,14 +23,14 @@ pub fn read_triplet(line: &[u8]) -> Option<Raw>
     ensures some { IfSome result (λ raw. IsTriplet line.now (numbers raw)) }
     ensures none { IfNone result ((f : Operator) → ¬ IsTriplet line.now f) }
 {
-    if line.len() > 255 {
+    if line.len() > LINE_LENGTH {
         return None;
     }
     read_components(without_blanks(without_quotes(without_blanks(line))))
 }
 
 fn read_components(text: &[u8]) -> Option<Raw>
-    requires { length text.now ≤ 255 }
+    requires { length text.now ≤ LINE_LENGTH }
     ensures { option_map numbers result ≡ components_of text.now }
 {
     let (first, rest) = cut_at(text, b',')?;
@@ -36,9 +39,9 @@ fn read_components(text: &[u8]) -> Option<Raw>
 }
 
 fn read_sums(first: &[u8], second: &[u8], third: &[u8]) -> Option<Raw>
-    requires first { length first.now ≤ 255 }
-    requires second { length second.now ≤ 255 }
-    requires third { length third.now ≤ 255 }
+    requires first { length first.now ≤ LINE_LENGTH }
+    requires second { length second.now ≤ LINE_LENGTH }
+    requires third { length third.now ≤ LINE_LENGTH }
     ensures { option_map numbers result ≡ three_sums first.now second.now third.now }
 {
     let a = read_sum(first)?;
@@ -48,9 +51,9 @@ fn read_sums(first: &[u8], second: &[u8], third: &[u8]) -> Option<Raw>
 }
 
 fn with_rows(a: &Component, b: &Component, c: &Component) -> Raw
-    requires a { IsSumOf 256 a.now }
-    requires b { IsSumOf 256 b.now }
-    requires c { IsSumOf 256 c.now }
+    requires a { IsSumOf (LINE_LENGTH + 1) a.now }
+    requires b { IsSumOf (LINE_LENGTH + 1) b.now }
+    requires c { IsSumOf (LINE_LENGTH + 1) c.now }
     ensures { numbers result ≡ operator_by a.now b.now c.now }
 {
     let w = [a.x, a.y, a.z, b.x, b.y, b.z, c.x, c.y, c.z];

@@ -1,4 +1,5 @@
 use Rattle.std.proofs.Common.{◌≤◌, ◌-◌, ◌+◌, length, get_or, refl, ◌∙◌, arith, length-drop}
+use Rattle.triplet_text.specs.declared.triplet.TheConstants.{LINE_LENGTH}
 use Rattle.triplet_text.proofs.Totals.{IsSumOf-more, IsSumOf-wider, total_more}
 use Rattle.triplet_text.proofs.sum.read_sum.Goals as goal
 
@@ -11,7 +12,7 @@ loop-rest-init c = record {
 }
 
 pub added-total-requires-clause-total : goal.added-total-requires-clause-total
-added-total-requires-clause-total c = IsSumOf-wider (length c.args.text.now - length c.loop-rest.rest.now + 1) 511 c.loop-rest.total (omega arith) c.loop-rest.invariant.small
+added-total-requires-clause-total c = IsSumOf-wider (length c.args.text.now - length c.loop-rest.rest.now + 1) LINE_LENGTH c.loop-rest.total (omega arith) c.loop-rest.invariant.small
 
 pub loop-rest-preserved : goal.loop-rest-preserved
 loop-rest-preserved c =
@@ -30,4 +31,4 @@ loop-rest-preserved c =
     }
 
 pub returns-clause-small : goal.returns-clause-small
-returns-clause-small c = IsSumOf-wider (length c.args.text.now - length c.loop-rest.rest.now + 1) 256 c.loop-rest.total (omega arith) c.loop-rest.invariant.small
+returns-clause-small c = IsSumOf-wider (length c.args.text.now - length c.loop-rest.rest.now + 1) (LINE_LENGTH + 1) c.loop-rest.total (omega arith) c.loop-rest.invariant.small

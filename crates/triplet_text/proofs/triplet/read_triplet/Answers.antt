@@ -11,7 +11,7 @@ equation : (c : After-read_components) → option_map numbers c.read_components.
 equation c =
     c.read_components.ensures
     ∙ ap components_of (c.without_blanks-2.ensures.text ∙ ap trim (c.without_quotes.ensures.text ∙ ap unquoted c.without_blanks.ensures.text))
-    ∙ short_enough c.args.line.now c.if-line-gt255.false
+    ∙ short_enough c.args.line.now c.if-line-gt-LINE_LENGTH.false
 
 pub returns-clause-some : goal.returns-clause-some
 returns-clause-some c = read_some _ _ (equation c)
