@@ -57,7 +57,7 @@ quotient_bytes p q hp hq = by (eqb q 1)
     by true = (some, front)
     by false = (omega (arith, some, length-append (decimal p) (stroke ∷ decimal q)), all_joined _ (decimal p) (stroke ∷ decimal q) front (refl, all_mapped _ _ digit_in_fraction (decimal q) (decimal_bytes q hq)))
 
-quotient_below : (n g : ℕ) → n < 2 ^ 64 → n / g < 2 ^ 64
+pub quotient_below : (n g : ℕ) → n < 2 ^ 64 → n / g < 2 ^ 64
 quotient_below n g h = lt_of_le_of_lt (div-le_self n g) h
 
 fraction_bytes : (n d : ℕ) → n < 2 ^ 64 → d < 2 ^ 64 → (0 < length (fraction_text n d)) × Each is_in_fraction (fraction_text n d)
@@ -178,13 +178,13 @@ fraction_is_constant d n hd hn = rw (fraction_has 120 d n (omega arith) hd hn, f
 
 -- ---- the sizes that are printed
 
-abbrev multiple_of : ℕ → ℕ → ℕ → List ℕ
+abbrev pub multiple_of : ℕ → ℕ → ℕ → List ℕ
 multiple_of d letter n = multiple_text n d letter
 
-abbrev fraction_of_parts : ℕ → ℕ → List ℕ
+abbrev pub fraction_of_parts : ℕ → ℕ → List ℕ
 fraction_of_parts d n = fraction_text n (UNIT * d)
 
-fraction_is_size : (d : ℕ) → d < 2 ^ 64 → IsSizeText (λ n. fraction_text n d)
+pub fraction_is_size : (d : ℕ) → d < 2 ^ 64 → IsSizeText (λ n. fraction_text n d)
 fraction_is_size d hd n hn = let b = fraction_bytes n d hn hd in (b.0, all_mapped _ _ fraction_no_sign (fraction_text n d) b.1)
 
 multiple_bytes : (P : ℕ → Type 0) → P star → (letter : ℕ) → P letter → ((byte : ℕ) → is_in_fraction byte ≡ true → P byte) → (n d : ℕ) → n < 2 ^ 64 → d < 2 ^ 64 → AllByRecursion P (multiple_text n d letter)
@@ -201,17 +201,17 @@ multiple_some n d letter = by (eqb n d)
     by true = omega arith
     by false = omega (arith, length-append (fraction_text n d) (star ∷ letter ∷ []))
 
-multiple_is_size : (d letter : ℕ) → d < 2 ^ 64 → is_sign letter ≡ false → IsSizeText (multiple_of d letter)
+pub multiple_is_size : (d letter : ℕ) → d < 2 ^ 64 → is_sign letter ≡ false → IsSizeText (multiple_of d letter)
 multiple_is_size d letter hd h n hn = (multiple_some n d letter, multiple_bytes (λ byte. is_sign byte ≡ false) refl letter h fraction_no_sign n d hn hd)
 
 -- ---- the numbers of a component
 
 -- a component that is printed over d
-record IsRow (d : ℕ) (x y z parts : ℤ) : Type 0 where
-  positive : 0 < d
-  over : d ≤ OVER_LIMIT
-  narrow : AreWithin (2 * d) x y z
-  few : unsigned_abs parts ≤ PARTS_LIMIT
+pub record IsRow (d : ℕ) (x y z parts : ℤ) : Type 0 where
+  pub positive : 0 < d
+  pub over : d ≤ OVER_LIMIT
+  pub narrow : AreWithin (2 * d) x y z
+  pub few : unsigned_abs parts ≤ PARTS_LIMIT
 
 -- what the terms of its text are
 record HasNumbers (terms : List (ℕ × List ℕ)) (d : ℕ) (x y z parts : ℤ) : Type 0 where
@@ -384,13 +384,13 @@ commas_back a b c r s t ha hb hr hs e =
 
 -- ---- maps
 
-row_x : (d : ℕ) (f : Operator) → IsPrintable d f → IsRow d f.w.xx f.w.xy f.w.xz f.t.x
+pub row_x : (d : ℕ) (f : Operator) → IsPrintable d f → IsRow d f.w.xx f.w.xy f.w.xz f.t.x
 row_x d f h = record { positive = h.positive; over = h.over; narrow = h.narrow.x; few = h.parts.first }
 
-row_y : (d : ℕ) (f : Operator) → IsPrintable d f → IsRow d f.w.yx f.w.yy f.w.yz f.t.y
+pub row_y : (d : ℕ) (f : Operator) → IsPrintable d f → IsRow d f.w.yx f.w.yy f.w.yz f.t.y
 row_y d f h = record { positive = h.positive; over = h.over; narrow = h.narrow.y; few = h.parts.second }
 
-row_z : (d : ℕ) (f : Operator) → IsPrintable d f → IsRow d f.w.zx f.w.zy f.w.zz f.t.z
+pub row_z : (d : ℕ) (f : Operator) → IsPrintable d f → IsRow d f.w.zx f.w.zy f.w.zz f.t.z
 row_z d f h = record { positive = h.positive; over = h.over; narrow = h.narrow.z; few = h.parts.third }
 
 pub one_map : (d e : ℕ) (f g : Operator) → IsPrintable d f → IsPrintable e g → affine_text d f ≡ affine_text e g → IsSameMap d f e g

@@ -19,5 +19,7 @@ pub mod LowestTerms
 mod Printed
 mod SignedTerms
 mod AffineLaw
+mod AffineValues
+mod AffineSame
 mod LineSteps
 pub mod LineLaws

@@ -69,16 +69,16 @@ each_cut (byte ∷ text) = cut_by (is_sign byte) byte text refl (each_cut text)
 
 -- ---- adding
 
-same_component : (a b : Component) → a.x ≡ b.x → a.y ≡ b.y → a.z ≡ b.z → a.parts ≡ b.parts → a ≡ b
+pub same_component : (a b : Component) → a.x ≡ b.x → a.y ≡ b.y → a.z ≡ b.z → a.parts ≡ b.parts → a ≡ b
 same_component a b p q r s = λ i. record { x = p i; y = q i; z = r i; parts = s i }
 
-added_nothing : (a : Component) → added a nothing ≡ a
+pub added_nothing : (a : Component) → added a nothing ≡ a
 added_nothing a = same_component (added a nothing) a (omega (arith, ints)) (omega (arith, ints)) (omega (arith, ints)) (omega (arith, ints))
 
-nothing_added : (a : Component) → added nothing a ≡ a
+pub nothing_added : (a : Component) → added nothing a ≡ a
 nothing_added a = same_component (added nothing a) a (omega (arith, ints)) (omega (arith, ints)) (omega (arith, ints)) (omega (arith, ints))
 
-added_assoc : (a b c : Component) → added (added a b) c ≡ added a (added b c)
+pub added_assoc : (a b c : Component) → added (added a b) c ≡ added a (added b c)
 added_assoc a b c = same_component (added (added a b) c) (added a (added b c)) (omega (arith, ints)) (omega (arith, ints)) (omega (arith, ints)) (omega (arith, ints))
 
 -- ---- a term behind its sign

@@ -13,4 +13,5 @@ pub mod Coordinates
 pub mod Triplets
 pub mod Fractions
 pub mod Printing
+pub mod AffineTexts
 pub mod Lines

@@ -1,9 +1,10 @@
-ghost use Rattle.std.specs.Prelude.{◌≡◌, List, ℕ, ℤ, pos, ◌<ℤ◌, ◌*ℤ◌};
+ghost use Rattle.std.specs.Prelude.{◌≡◌, ◌<◌, List, ℕ, ℤ, pos, ◌<ℤ◌, ◌*ℤ◌};
 ghost use Rattle.exact_ops.specs.Operator.{Operator};
 ghost use Rattle.triplet_text.specs.Grammar.{IsTriplet};
 ghost use Rattle.triplet_text.specs.Coordinates.{IsCoordinate};
 ghost use Rattle.triplet_text.specs.Fractions.{frac_text};
 ghost use Rattle.triplet_text.specs.Printing.{affine_text, IsPrintable, IsSameMap};
+ghost use Rattle.triplet_text.specs.AffineTexts.{IsAffineText};
 
 /// A line is a triplet of one operator at most.
 pub fn triplet_is_unique()
@@ -23,4 +24,15 @@ pub fn equal_fractions_have_one_text()
 /// Affine maps with one text have equal numbers.
 pub fn affine_text_has_one_map()
     ensures { (d e : ℕ) (f g : Operator) → IsPrintable d f → IsPrintable e g → affine_text d f ≡ affine_text e g → IsSameMap d f e g }
+{}
+
+/// The text of an affine map has the map's numbers: n / d before each letter, and n / (`UNIT` d) as a constant, in lowest
+/// terms.
+pub fn affine_text_has_values()
+    ensures { (d : ℕ) (f : Operator) → IsPrintable d f → IsAffineText d (affine_text d f) f }
+{}
+
+/// An affine map has one text, whatever number it is written over.
+pub fn affine_map_has_one_text()
+    ensures { (d e : ℕ) (f g : Operator) → 0 < d → 0 < e → IsSameMap d f e g → affine_text d f ≡ affine_text e g }
 {}
