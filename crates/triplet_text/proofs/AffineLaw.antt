@@ -26,19 +26,19 @@ use Rattle.triplet_text.proofs.SignedTerms.{terms_of, term_in, terms_joined, IsT
 
 -- ---- the bytes of fractions
 
-abbrev is_in_fraction : ℕ → Bool
+abbrev pub is_in_fraction : ℕ → Bool
 is_in_fraction byte = is_digit byte || eqb byte stroke
 
-digit_in_fraction : (byte : ℕ) → is_digit byte ≡ true → is_in_fraction byte ≡ true
+pub digit_in_fraction : (byte : ℕ) → is_digit byte ≡ true → is_in_fraction byte ≡ true
 digit_in_fraction byte h = rw h refl
 
-fraction_no_sign : (byte : ℕ) → is_in_fraction byte ≡ true → is_sign byte ≡ false
+pub fraction_no_sign : (byte : ℕ) → is_in_fraction byte ≡ true → is_sign byte ≡ false
 fraction_no_sign byte h = grind (arith, nat_tests)
 
-fraction_no_star : (byte : ℕ) → is_in_fraction byte ≡ true → eqb byte star ≡ false
+pub fraction_no_star : (byte : ℕ) → is_in_fraction byte ≡ true → eqb byte star ≡ false
 fraction_no_star byte h = grind (arith, nat_tests)
 
-fraction_no_comma : (byte : ℕ) → is_in_fraction byte ≡ true → eqb byte comma ≡ false
+pub fraction_no_comma : (byte : ℕ) → is_in_fraction byte ≡ true → eqb byte comma ≡ false
 fraction_no_comma byte h = grind (arith, nat_tests)
 
 decimal_bytes : (n : ℕ) → n < 2 ^ 64 → Each is_digit (decimal n)
@@ -65,7 +65,7 @@ fraction_bytes n d hn hd = quotient_bytes (n / gcd n d) (d / gcd n d) (quotient_
 
 -- ---- equal texts of fractions
 
-some_same : {A : Type 0} (x y : A) → Some x ≡ Some y → x ≡ y
+pub some_same : {A : Type 0} (x y : A) → Some x ≡ Some y → x ≡ y
 some_same x y e = cc
 
 cut_stroke : (p q : ℕ) → p < 2 ^ 64 → cut (λ b. eqb b stroke) (decimal p ++ stroke ∷ decimal q) ≡ Some (decimal p, decimal q)

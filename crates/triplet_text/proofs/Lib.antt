@@ -21,5 +21,6 @@ mod SignedTerms
 mod AffineLaw
 mod AffineValues
 mod AffineSame
+mod AffineUnique
 mod LineSteps
 pub mod LineLaws

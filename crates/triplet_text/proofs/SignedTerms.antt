@@ -12,7 +12,7 @@ use Rattle.triplet_text.proofs.Texts.{Lacks}
 -- ---- terms with their signs
 
 -- a first term without a sign stands behind a plus
-abbrev with_first : List ℕ → List (ℕ × List ℕ) → List (ℕ × List ℕ)
+abbrev pub with_first : List ℕ → List (ℕ × List ℕ) → List (ℕ × List ℕ)
 with_first [] terms = terms
 with_first (byte ∷ text) terms = (plus_sign, byte ∷ text) ∷ terms
 

@@ -26,7 +26,7 @@ signed_text p = p.0 ∷ p.1
 abbrev IsSigned : ℕ × List ℕ → Type 0
 IsSigned p = (is_sign p.0 ≡ true) × Lacks is_sign p.1
 
-cut_in_two : (first rest : List ℕ) → Lacks is_sign first → (before_sign (first ++ rest) ≡ first ++ before_sign rest) × (behind_signs (first ++ rest) ≡ behind_signs rest)
+pub cut_in_two : (first rest : List ℕ) → Lacks is_sign first → (before_sign (first ++ rest) ≡ first ++ before_sign rest) × (behind_signs (first ++ rest) ≡ behind_signs rest)
 cut_in_two [] rest h = (refl, refl)
 cut_in_two (byte ∷ first) rest h = let i = cut_in_two first rest h.1 in (rw (h.0, i.0) refl, rw (h.0, i.1) refl)
 

@@ -32,6 +32,11 @@ pub fn affine_text_has_values()
     ensures { (d : ℕ) (f : Operator) → IsPrintable d f → IsAffineText d (affine_text d f) f }
 {}
 
+/// A text has the values of one affine map at most, written over d.
+pub fn affine_text_is_unique()
+    ensures { (d : ℕ) (text : List ℕ) (f g : Operator) → IsAffineText d text f → IsAffineText d text g → f ≡ g }
+{}
+
 /// An affine map has one text, whatever number it is written over.
 pub fn affine_map_has_one_text()
     ensures { (d e : ℕ) (f g : Operator) → 0 < d → 0 < e → IsSameMap d f e g → affine_text d f ≡ affine_text e g }
