@@ -1,12 +1,13 @@
 -- The text of an affine map says the map's numbers.
-use Rattle.std.proofs.Common.{◌≡◌, ℕ, zero, suc, ◌<◌, ◌*◌, ◌^◌, Bool, true, false, cond, eqb, List, [], ◌∷◌, ◌++◌, length, append_assoc, decimal, refl, sym, ap, subst, ◌∙◌, arith, ℤ, pos, negsuc, unsigned_abs}
+use Rattle.std.proofs.Common.{◌≡◌, ℕ, zero, suc, ◌<◌, ◌≤◌, ◌*◌, ◌^◌, Bool, true, false, cond, eqb, List, [], ◌∷◌, ◌++◌, length, append_assoc, decimal, refl, sym, ap, subst, ◌∙◌, arith, ℤ, pos, negsuc, unsigned_abs}
 use Rattle.std.proofs.lemmas.List.{append-nil}
 use Rattle.std.proofs.lemmas.Int.{ints}
 use Rattle.std.proofs.lemmas.Bool.Decides.{nat_tests}
 use Rattle.std.proofs.lemmas.Fmt.{digits_decimal, digits_value-decimal, decimal_is_IsNumeral}
 use borrow.Author.Tests.{eqb-true}
-use Rattle.exact_ops.specs.Operator.{Operator}
+use Rattle.exact_ops.specs.Operator.{Operator, AreWithin}
 use Rattle.exact_ops.specs.declared.TheConstants.{UNIT}
+use Rattle.triplet_text.specs.declared.printing.TheConstants.{OVER_LIMIT, PARTS_LIMIT}
 use Rattle.triplet_text.specs.declared.component.Component.{Component}
 use Rattle.triplet_text.specs.Bytes.{is_sign, comma, star, stroke, plus_sign, minus_sign, zero_digit}
 use Rattle.triplet_text.specs.Tokens.{is_letter}
@@ -14,14 +15,14 @@ use Rattle.triplet_text.specs.Components.{behind}
 use Rattle.triplet_text.specs.Grammar.{value_of, times, translation, negated, added, nothing}
 use Rattle.triplet_text.specs.Fractions.{gcd, quotient_text, fraction_text}
 use Rattle.triplet_text.specs.Coordinates.{AreDigits}
-use Rattle.triplet_text.specs.Printing.{signed_text, joined, terms_text, or_zero, component_text, affine_text, IsPrintable}
+use Rattle.triplet_text.specs.Printing.{signed_text, joined, terms_text, or_zero, component_text, affine_text, IsPrintable, IsSameMap}
 use Rattle.triplet_text.specs.AffineTexts.{HasValue, whole, fraction, IsAffineTerm, letter, multiple, constant, AreAffineTerms, none, more, IsAffineSum, bare, minus, IsAffineText}
 use Rattle.triplet_text.proofs.LowestTerms.{IsLowest, is_lowest}
 use Rattle.triplet_text.proofs.Values.{own}
 use Rattle.triplet_text.proofs.Texts.{Lacks}
 use Rattle.triplet_text.proofs.SumTexts.{same_component, added_nothing, nothing_added, added_assoc}
-use Rattle.triplet_text.proofs.SignedTerms.{IsSizeText}
-use Rattle.triplet_text.proofs.AffineLaw.{quotient_below, multiple_of, fraction_of_parts, multiple_is_size, fraction_is_size, IsRow, row_x, row_y, row_z}
+use Rattle.triplet_text.proofs.AffineBytes.{quotient_below, IsSizeText, multiple_of, fraction_of_parts, multiple_is_size, fraction_is_size}
+use Rattle.triplet_text.proofs.AffineUnique.{one_map_of_text}
 
 -- ---- numbers
 
@@ -154,6 +155,13 @@ four_say x y z parts =
     (λ i. all_four (x_says x i) (y_says y i) (z_says z i) (constant_says parts i))
     ∙ same_component (all_four (record { x = x; y = pos 0; z = pos 0; parts = pos 0 }) (record { x = pos 0; y = y; z = pos 0; parts = pos 0 }) (record { x = pos 0; y = pos 0; z = z; parts = pos 0 }) (record { x = pos 0; y = pos 0; z = pos 0; parts = parts })) (record { x = x; y = y; z = z; parts = parts }) (omega (arith, ints)) (omega (arith, ints)) (omega (arith, ints)) (omega (arith, ints))
 
+-- a component that is printed over d
+record IsRow (d : ℕ) (x y z parts : ℤ) : Type 0 where
+  positive : 0 < d
+  over : d ≤ OVER_LIMIT
+  narrow : AreWithin (2 * d) x y z
+  few : unsigned_abs parts ≤ PARTS_LIMIT
+
 component_sum : (d : ℕ) (x y z parts : ℤ) → IsRow d x y z parts → IsAffineSum d (component_text d x y z parts) (record { x = x; y = y; z = z; parts = parts })
 component_sum d x y z parts row =
     let over = row.over in
@@ -170,6 +178,15 @@ component_sum d x y z parts row =
     let all = join_number d (fraction_of_parts d) translation (fraction_is_size (UNIT * d) hu) (λ n hn. constant_value d n row.positive hu hn) _ _ parts sp three in
     same_sum d refl (four_say x y z parts) (zero_sum d (terms_text d x y z parts) _ all)
 
+row_x : (d : ℕ) (f : Operator) → IsPrintable d f → IsRow d f.w.xx f.w.xy f.w.xz f.t.x
+row_x d f h = record { positive = h.positive; over = h.over; narrow = h.narrow.x; few = h.parts.first }
+
+row_y : (d : ℕ) (f : Operator) → IsPrintable d f → IsRow d f.w.yx f.w.yy f.w.yz f.t.y
+row_y d f h = record { positive = h.positive; over = h.over; narrow = h.narrow.y; few = h.parts.second }
+
+row_z : (d : ℕ) (f : Operator) → IsPrintable d f → IsRow d f.w.zx f.w.zy f.w.zz f.t.z
+row_z d f h = record { positive = h.positive; over = h.over; narrow = h.narrow.z; few = h.parts.third }
+
 -- the text of a map has its numbers
 pub text_has_values : (d : ℕ) (f : Operator) → IsPrintable d f → IsAffineText d (affine_text d f) f
 text_has_values d f h =
@@ -185,3 +202,7 @@ text_has_values d f h =
       y = component_sum d _ _ _ _ (row_y d f h);
       z = component_sum d _ _ _ _ (row_z d f h);
     }
+
+-- maps with one text are one map
+pub one_map : (d e : ℕ) (f g : Operator) → IsPrintable d f → IsPrintable e g → affine_text d f ≡ affine_text e g → IsSameMap d f e g
+one_map d e f g p q same = one_map_of_text d e (affine_text d f) f g (text_has_values d f p) (subst (λ (t : List ℕ). IsAffineText e t g) (sym same) (text_has_values e g q))

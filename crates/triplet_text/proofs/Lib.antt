@@ -17,10 +17,9 @@ mod Rows
 pub mod CoordinateLaw
 pub mod LowestTerms
 mod Printed
-mod SignedTerms
-mod AffineLaw
+mod AffineBytes
+mod AffineUnique
 mod AffineValues
 mod AffineSame
-mod AffineUnique
 mod LineSteps
 pub mod LineLaws

@@ -32,9 +32,9 @@ pub fn affine_text_has_values()
     ensures { (d : ℕ) (f : Operator) → IsPrintable d f → IsAffineText d (affine_text d f) f }
 {}
 
-/// A text has the values of one affine map at most, written over d.
+/// A text has the values of one affine map at most.
 pub fn affine_text_is_unique()
-    ensures { (d : ℕ) (text : List ℕ) (f g : Operator) → IsAffineText d text f → IsAffineText d text g → f ≡ g }
+    ensures { (d e : ℕ) (text : List ℕ) (f g : Operator) → IsAffineText d text f → IsAffineText e text g → IsSameMap d f e g }
 {}
 
 /// An affine map has one text, whatever number it is written over.

@@ -1,4 +1,4 @@
-use Rattle.triplet_text.proofs.AffineLaw.{one_map}
+use Rattle.triplet_text.proofs.AffineValues.{one_map}
 use Rattle.triplet_text.proofs.laws.affine_text_has_one_map.Goals as goal
 
 pub returns : goal.returns
