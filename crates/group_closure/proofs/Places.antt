@@ -6,7 +6,7 @@ use Rattle.std.proofs.lemmas.List.Elements.{All-contains}
 use Rattle.finite_groups.proofs.Basics as basics
 use Rattle.finite_groups.proofs.Closing as closing
 use Rattle.lattice_algebra.specs.Matrix.{◌·◌}
-use Rattle.lattice_algebra.specs.Operator.{Operator, product, inverse, HasEntriesWithin, IsInverse}
+use Rattle.lattice_algebra.specs.Operator.{Operator, product, inverse, HasEntriesWithin, IsInverse, identity_operator}
 use Rattle.lattice_algebra.proofs.Operators.{inverse-IsInverse, inverse_once}
 use Rattle.exact_ops.specs.Narrow.{IsNarrow}
 use Rattle.exact_ops.specs.declared.TheConstants.{UNIT}
@@ -42,6 +42,9 @@ one_place members f i k d p q =
 -- two members read at one place
 pub same_at : (members : List Operator) (f g : Operator) (i : ℕ) → slice_get members i ≡ Some f → slice_get members i ≡ Some g → f ≡ g
 same_at members f g i p q = sym (get_or_from_slice_get members i f f p) ∙ get_or_from_slice_get members i g f q
+
+pub some_member : (members : List Operator) → IsGroup members → 0 < length members
+some_member members p = slice_get_within members 0 identity_operator p.first
 
 -- ---- none of the first i
 

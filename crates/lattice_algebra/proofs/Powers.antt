@@ -1,12 +1,13 @@
 -- The laws of powers: their sum, what they fix, and the powers of the opposite matrix.
 use Rattle.std.proofs.Common.{◌≡◌, ◌++◌, ◌∷◌, ◌⊎◌, inl, inr, ⊎_elim, ℕ, zero, suc, ◌+◌, ◌≤◌, ℤ, pos, negsuc, ◌+ℤ◌, ◌*ℤ◌, unsigned_abs, ap, ap₂, sym, ◌∙◌, refl, arith, add-one}
 use Rattle.std.proofs.lemmas.Int.{ints}
-use Rattle.lattice_algebra.specs.Matrix.{Matrix, Column, entries, coordinates, ◌·◌, ◌·ᶜ◌, ◌+ᶜ◌, ◌+ᵐ◌, times, scaled, identity, no_matrix}
+use Rattle.lattice_algebra.specs.Matrix.{Matrix, Column, entries, coordinates, ◌·◌, ◌·ᶜ◌, ◌+ᶜ◌, ◌+ᵐ◌, times, scaled, origin, identity, no_matrix}
 use Rattle.lattice_algebra.specs.Operator.{AreWithin, HasEntriesWithin}
 use Rattle.lattice_algebra.specs.Powers.{power, sum_of_powers}
 use Rattle.lattice_algebra.proofs.Ring.{var, con, ◌⊕◌, ◌⊗◌}
-use Rattle.lattice_algebra.proofs.MatrixRing.{matrix_at, column_at, ◌·ˢ◌, ◌·ˢᶜ◌, ◌+ˢ◌, ◌+ˢᶜ◌, sym_scaled, sym_times, sym_identity, sym_nothing, matrix_ring, column_ring}
+use Rattle.lattice_algebra.proofs.MatrixRing.{matrix_at, column_at, ◌·ˢ◌, ◌·ˢᶜ◌, ◌+ˢ◌, ◌+ˢᶜ◌, sym_scaled, sym_times, sym_identity, sym_nothing, sym_origin, matrix_ring, column_ring}
 use Rattle.lattice_algebra.proofs.Matrices.{·_assoc, ·-identity, identity-·, ·ᶜ_assoc}
+use Rattle.lattice_algebra.proofs.Columns.{no_times}
 use Rattle.lattice_algebra.proofs.Numbers.{abs_add}
 
 -- ---- sums of matrices
@@ -93,11 +94,11 @@ unfolding power
 power-fixed w zero c e = identity-·ᶜ c
 power-fixed w (suc k) c e = ·ᶜ_assoc w (power w k) c ∙ ap (λ d. w ·ᶜ d) (power-fixed w k c e) ∙ e
 
-no_matrix-·ᶜ : (c : Column) → no_matrix ·ᶜ c ≡ times (pos 0) c
-unfolding ◌·ᶜ◌ times
-no_matrix-·ᶜ c = column_ring (coordinates c) (sym_nothing ·ˢᶜ column_at 0) (sym_times (con (pos 0)) (column_at 0)) tt
+pub no_matrix-·ᶜ : (c : Column) → no_matrix ·ᶜ c ≡ origin
+unfolding ◌·ᶜ◌
+no_matrix-·ᶜ c = column_ring (coordinates c) (sym_nothing ·ˢᶜ column_at 0) sym_origin tt
 
-+ᵐ-·ᶜ : (a b : Matrix) (c : Column) → (a +ᵐ b) ·ᶜ c ≡ a ·ᶜ c +ᶜ b ·ᶜ c
+pub +ᵐ-·ᶜ : (a b : Matrix) (c : Column) → (a +ᵐ b) ·ᶜ c ≡ a ·ᶜ c +ᶜ b ·ᶜ c
 unfolding ◌·ᶜ◌ ◌+ᵐ◌ ◌+ᶜ◌
 +ᵐ-·ᶜ a b c =
     let x = matrix_at 0 in
@@ -114,7 +115,7 @@ once_more n c =
 -- a column that W fixes is taken k times
 pub sum_of_powers-fixed : (w : Matrix) (k : ℕ) (c : Column) → w ·ᶜ c ≡ c → sum_of_powers w k ·ᶜ c ≡ times (pos k) c
 unfolding sum_of_powers
-sum_of_powers-fixed w zero c e = no_matrix-·ᶜ c
+sum_of_powers-fixed w zero c e = no_matrix-·ᶜ c ∙ sym (no_times c)
 sum_of_powers-fixed w (suc k) c e =
     let more : pos k +ℤ pos 1 ≡ pos (suc k) = omega (arith, ints) in
     +ᵐ-·ᶜ (sum_of_powers w k) (power w k) c ∙ ap₂ (λ x y. x +ᶜ y) (sum_of_powers-fixed w k c e) (power-fixed w k c e) ∙ once_more (pos k) c ∙ ap (λ n. times n c) more

@@ -1,61 +1,23 @@
 -- The columns that a matrix of finite order fixes are those that the columns of the sum of its powers span.
-use Rattle.std.proofs.Common.{◌≡◌, ◌≢◌, ◌⊎◌, inl, inr, ⊎_elim, ◌++◌, ◌∷◌, [], ℕ, zero, suc, ◌<◌, ℤ, pos, negsuc, ◌*ℤ◌, ap, sym, subst, ◌∙◌, refl, arith}
+use Rattle.std.proofs.Common.{◌≡◌, ◌≢◌, ⊎_elim, ◌∷◌, [], ℕ, ◌<◌, ℤ, pos, negsuc, ◌*ℤ◌, ap, sym, subst, ◌∙◌, refl, arith}
 use Rattle.std.proofs.lemmas.Int.{ints}
 use lib.IntN.{*ℤ_comm}
-use Rattle.lattice_algebra.specs.Matrix.{Matrix, Column, coordinates, entries, ◌·◌, ◌·ᶜ◌, times, origin, no_matrix}
+use Rattle.lattice_algebra.specs.Matrix.{Matrix, Column, ◌·◌, ◌·ᶜ◌, times, origin, no_matrix}
 use Rattle.lattice_algebra.specs.Powers.{sum_of_powers, IsOrder}
-use Rattle.lattice_algebra.proofs.Ring.{known, var, con, ◌⊕◌, ◌⊖◌, ◌⊗◌, ring_from}
-use Rattle.lattice_algebra.proofs.Columns.{times-times}
-use Rattle.lattice_algebra.proofs.MatrixRing.{matrix_at, column_at, ◌·ˢᶜ◌, sym_times, sym_nothing, sym_origin, column_ring}
+use Rattle.lattice_algebra.proofs.Ring.{known, var, con, ◌⊗◌, ring_from}
+use Rattle.lattice_algebra.proofs.Columns.{cancel_times, times_origin, times-times, ·ᶜ-times}
 use Rattle.lattice_algebra.proofs.Matrices.{·ᶜ_assoc}
-use Rattle.lattice_algebra.proofs.Numbers.{cancel_number}
-use Rattle.lattice_algebra.proofs.Powers.{·-sum_of_powers, sum_of_powers-fixed}
+use Rattle.lattice_algebra.proofs.Numbers.{cancel_some, zero_or_other}
+use Rattle.lattice_algebra.proofs.Powers.{·-sum_of_powers, sum_of_powers-fixed, no_matrix-·ᶜ}
 use Rattle.op_types.specs.Axis.{IsMultiple, IsAlong, IsLine, IsAxis, IsDirected, HasNoDivisor}
 use Rattle.op_types.specs.Vector.{AreParallel, IsImage}
-
--- ---- factors that are not 0
-
-pub zero_or_other : (x : ℤ) → (x ≡ pos 0) ⊎ (x ≢ pos 0)
-zero_or_other (pos zero) = inl refl
-zero_or_other (pos (suc n)) = inr (λ e. omega (arith, ints, e))
-zero_or_other (negsuc n) = inr (λ e. omega (arith, ints, e))
-
-cancel : (k x y : ℤ) → k ≢ pos 0 → k *ℤ x ≡ k *ℤ y → x ≡ y
-cancel (pos zero) x y h e = absurd (h refl)
-cancel (pos (suc n)) x y h e = cancel_number (pos (suc n)) x y (omega (arith, ints)) e
-cancel (negsuc n) x y h e = cancel_number (pos (suc n)) x y (omega (arith, ints)) (ring_from (negsuc n ∷ pos (suc n) ∷ x ∷ y ∷ []) (var 1 ⊗ var 2) (var 1 ⊗ var 3) (known (con (negsuc 0)) (var 0 ⊗ var 2) (var 0 ⊗ var 3) ∷ known (var 2 ⊖ var 3) (var 0 ⊕ var 1) (con (pos 0)) ∷ []) (e, (omega (arith, ints), tt)) tt)
-
-pub cancel_times : (k : ℤ) (u v : Column) → k ≢ pos 0 → times k u ≡ times k v → u ≡ v
-unfolding times
-cancel_times k u v h e = λ i. record {
-  x = cancel k u.x v.x h (ap (λ (c : Column). c.x) e) i;
-  y = cancel k u.y v.y h (ap (λ (c : Column). c.y) e) i;
-  z = cancel k u.z v.z h (ap (λ (c : Column). c.z) e) i;
-}
-
--- ---- linear facts
-
-nothing_image : (c : Column) (k : ℤ) → no_matrix ·ᶜ c ≡ times k origin
-unfolding ◌·ᶜ◌ times
-nothing_image c k = column_ring (k ∷ coordinates c) (sym_nothing ·ˢᶜ column_at 1) (sym_times (var 0) sym_origin) tt
-
-pub times_origin : (k : ℤ) → times k origin ≡ origin
-unfolding times
-times_origin k = column_ring (k ∷ []) (sym_times (var 0) sym_origin) sym_origin tt
-
-pub ·ᶜ-times : (m : Matrix) (k : ℤ) (c : Column) → m ·ᶜ times k c ≡ times k (m ·ᶜ c)
-unfolding ◌·ᶜ◌ times
-·ᶜ-times m k c =
-    let x = matrix_at 1 in
-    let v = column_at 10 in
-    column_ring (k ∷ (entries m ++ coordinates c)) (x ·ˢᶜ sym_times (var 0) v) (sym_times (var 0) (x ·ˢᶜ v)) tt
 
 -- a multiple of k a is a multiple of a
 multiple_part : (a c v : Column) (k : ℤ) → c ≡ times k a → IsMultiple c v → IsMultiple a v
 multiple_part a c v k e h = (h.0, h.1 *ℤ k, h.2, h.3 ∙ ap (times h.1) e ∙ times-times h.1 k a)
 
 parallel_entry : (k a b u v : ℤ) → k ≢ pos 0 → a *ℤ (k *ℤ v) ≡ b *ℤ (k *ℤ u) → a *ℤ v ≡ b *ℤ u
-parallel_entry k a b u v some e = cancel k (a *ℤ v) (b *ℤ u) some (ring_from (k ∷ a ∷ b ∷ u ∷ v ∷ []) (var 0 ⊗ (var 1 ⊗ var 4)) (var 0 ⊗ (var 2 ⊗ var 3)) (known (con (pos 1)) (var 1 ⊗ (var 0 ⊗ var 4)) (var 2 ⊗ (var 0 ⊗ var 3)) ∷ []) (e, tt) tt)
+parallel_entry k a b u v some e = cancel_some k (a *ℤ v) (b *ℤ u) some (ring_from (k ∷ a ∷ b ∷ u ∷ v ∷ []) (var 0 ⊗ (var 1 ⊗ var 4)) (var 0 ⊗ (var 2 ⊗ var 3)) (known (con (pos 1)) (var 1 ⊗ (var 0 ⊗ var 4)) (var 2 ⊗ (var 0 ⊗ var 3)) ∷ []) (e, tt) tt)
 
 parallel_cancel : (k : ℤ) (a c : Column) → k ≢ pos 0 → AreParallel a (times k c) → AreParallel a c
 unfolding times
@@ -107,7 +69,7 @@ multiples_parallel a u v p q =
     }
   where
     cross : (m k n l u w v t a b : ℤ) → m ≢ pos 0 → n ≢ pos 0 → m *ℤ u ≡ k *ℤ a → m *ℤ w ≡ k *ℤ b → n *ℤ v ≡ l *ℤ a → n *ℤ t ≡ l *ℤ b → u *ℤ t ≡ w *ℤ v
-    cross m k n l u w v t a b hm hn eu ew ev et = cancel m (u *ℤ t) (w *ℤ v) hm (cancel n (m *ℤ (u *ℤ t)) (m *ℤ (w *ℤ v)) hn (cross_times m k n l u w v t a b eu ew ev et))
+    cross m k n l u w v t a b hm hn eu ew ev et = cancel_some m (u *ℤ t) (w *ℤ v) hm (cancel_some n (m *ℤ (u *ℤ t)) (m *ℤ (w *ℤ v)) hn (cross_times m k n l u w v t a b eu ew ev et))
 
 -- ---- what is fixed
 
@@ -139,7 +101,7 @@ module _ (p s : Matrix) (k : ℕ) (o : IsOrder p k) (e : s ≡ sum_of_powers p k
   pub no_line_of_nothing : s ≡ no_matrix → IsLine p → ⊥
   no_line_of_nothing z l =
       let a = l.0 in
-      l.1.some (cancel_times (pos k) a origin (some_order k o.positive) (sym (fixed_image p s k a e l.1.fixed) ∙ ap (λ m. m ·ᶜ a) z ∙ nothing_image a (pos k)))
+      l.1.some (cancel_times (pos k) a origin (some_order k o.positive) (sym (fixed_image p s k a e l.1.fixed) ∙ ap (λ m. m ·ᶜ a) z ∙ no_matrix-·ᶜ a ∙ sym (times_origin (pos k))))
 
   -- on a line all images of the sum are on one line with each
   pub line_parallel : IsLine p → (a : Column) → IsImage s a → (c : Column) → AreParallel a (s ·ᶜ c)

@@ -6,15 +6,15 @@ use Rattle.lattice_algebra.specs.Matrix.{Matrix, Column, coordinates, det, ◌·
 use Rattle.lattice_algebra.specs.Operator.{Operator}
 use Rattle.lattice_algebra.specs.Powers.{IsOrder, sum_of_powers}
 use Rattle.lattice_algebra.proofs.Ring.{known, var, con, neg, ◌⊕◌, ◌⊗◌, ring_from}
-use Rattle.lattice_algebra.proofs.Columns.{swap_times, times-times}
-use Rattle.lattice_algebra.proofs.MatrixRing.{column_at, sym_times, sym_origin, column_ring}
+use Rattle.lattice_algebra.proofs.Columns.{swap_times, times-times, cancel_times, times_origin, no_times}
+use Rattle.lattice_algebra.proofs.MatrixRing.{column_at, sym_times, column_ring}
 use Rattle.exact_ops.specs.declared.TheConstants.{UNIT}
 use Rattle.op_types.specs.ProperPart.{IsProperPart, opposite}
 use Rattle.op_types.specs.IntrinsicPart.{IsIntrinsicPart}
 use Rattle.op_types.specs.Axis.{IsAxis, IsDirected, HasNoDivisor}
 use Rattle.op_types.specs.Types.{OperationType, HasAxis, IsTypeOf}
 use Rattle.op_types.proofs.Members.{proper_or_not}
-use Rattle.op_types.proofs.FixedColumns.{cancel_times, times_origin, some_order}
+use Rattle.op_types.proofs.FixedColumns.{some_order}
 
 -- two types that say the same: the intrinsic parts are equal as fractions
 pub record AgreeInType (s t : OperationType) : Type 0 where
@@ -144,10 +144,6 @@ are_multiples (suc n) m k a b l p q e =
     (cases_order m k)
 
 -- ---- columns without common divisor
-
-no_times : (a : Column) → times (pos 0) a ≡ origin
-unfolding times
-no_times a = column_ring (coordinates a) (sym_times (con (pos 0)) (column_at 0)) sym_origin tt
 
 -- a whole multiple without common divisor is the column itself
 undivided : (n : ℕ) (a o : Column) → a ≢ origin → HasNoDivisor a → a ≡ times (pos n) o → a ≡ o

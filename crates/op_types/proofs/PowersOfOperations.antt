@@ -1,30 +1,17 @@
 -- An operation, as often as the order of its matrix says, is the translation by so many times its intrinsic part.
-use Rattle.std.proofs.Common.{◌≡◌, ◌↔◌, ◌++◌, ℕ, zero, suc, ◌*◌, ℤ, pos, ap, sym, subst, ◌∙◌, refl, arith}
+use Rattle.std.proofs.Common.{◌≡◌, ◌↔◌, ℕ, zero, suc, ◌*◌, ℤ, pos, ap, sym, subst, ◌∙◌, refl, arith}
 use Rattle.std.proofs.lemmas.Int.{ints}
-use Rattle.lattice_algebra.specs.Matrix.{Matrix, Column, coordinates, entries, ◌·◌, ◌·ᶜ◌, ◌+ᶜ◌, ◌+ᵐ◌, times, origin, identity, no_matrix}
+use Rattle.lattice_algebra.specs.Matrix.{Matrix, Column, ◌·◌, ◌·ᶜ◌, times, identity}
 use Rattle.lattice_algebra.specs.Operator.{Operator}
 use Rattle.lattice_algebra.specs.Map.{Map, ◌∘◌, map_of}
 use Rattle.lattice_algebra.specs.Powers.{power, sum_of_powers, IsOrder}
-use Rattle.lattice_algebra.proofs.Columns.{cancel_column}
+use Rattle.lattice_algebra.proofs.Columns.{cancel_column, swap_columns, ·ᶜ-times}
 use Rattle.lattice_algebra.proofs.Maps.{map_path}
-use Rattle.lattice_algebra.proofs.MatrixRing.{matrix_at, column_at, ◌·ˢᶜ◌, ◌+ˢ◌, ◌+ˢᶜ◌, sym_nothing, sym_origin, column_ring}
-use Rattle.lattice_algebra.proofs.Powers.{power-one, power-more, power-add}
+use Rattle.lattice_algebra.proofs.Powers.{power-one, power-more, power-add, no_matrix-·ᶜ, +ᵐ-·ᶜ}
 use Rattle.exact_ops.specs.declared.TheConstants.{UNIT}
 use Rattle.op_types.specs.IntrinsicPart.{IsIntrinsicPart, repeated}
-use Rattle.op_types.proofs.FixedColumns.{·ᶜ-times, image_fixed}
+use Rattle.op_types.proofs.FixedColumns.{image_fixed}
 use Rattle.op_types.proofs.OneType.{same_order}
-
-nothing : (t : Column) → no_matrix ·ᶜ t ≡ origin
-unfolding ◌·ᶜ◌
-nothing t = column_ring (coordinates t) (sym_nothing ·ˢᶜ column_at 0) sym_origin tt
-
-plus_on : (a b : Matrix) (c : Column) → (a +ᵐ b) ·ᶜ c ≡ b ·ᶜ c +ᶜ a ·ᶜ c
-unfolding ◌·ᶜ◌ ◌+ᵐ◌ ◌+ᶜ◌
-plus_on a b c =
-    let x = matrix_at 0 in
-    let y = matrix_at 9 in
-    let z = column_at 18 in
-    column_ring (entries a ++ (entries b ++ coordinates c)) ((x +ˢ y) ·ˢᶜ z) (y ·ˢᶜ z +ˢᶜ x ·ˢᶜ z) tt
 
 commutes : (w : Matrix) (k : ℕ) → power w k · w ≡ w · power w k
 commutes w k = ap (λ m. power w k · m) (sym (power-one w)) ∙ sym (power-add w k 1) ∙ power-more w k
@@ -35,11 +22,13 @@ so_far f k = record { w = power f.w k; s = sum_of_powers f.w k ·ᶜ f.t }
 
 once_more : (f : Operator) (k : ℕ) → so_far f k ∘ map_of f ≡ so_far f (suc k)
 unfolding ◌∘◌ power sum_of_powers
-once_more f k = map_path _ _ (commutes f.w k) (sym (plus_on (sum_of_powers f.w k) (power f.w k) f.t))
+once_more f k =
+    let s = sum_of_powers f.w k in
+    map_path _ _ (commutes f.w k) (swap_columns (power f.w k ·ᶜ f.t) (s ·ᶜ f.t) ∙ sym (+ᵐ-·ᶜ s (power f.w k) f.t))
 
 repeats : (f : Operator) (k : ℕ) → repeated (map_of f) k ≡ so_far f k
 unfolding repeated power sum_of_powers
-repeats f zero = map_path _ _ refl (sym (nothing f.t))
+repeats f zero = map_path _ _ refl (sym (no_matrix-·ᶜ f.t))
 repeats f (suc k) = ap (λ g. g ∘ map_of f) (repeats f k) ∙ once_more f k
 
 pub returned : (f : Operator) (k : ℕ) → IsOrder f.w k → (repeated (map_of f) k).w ≡ identity

@@ -1,27 +1,23 @@
 -- The matrices of the members of a group, and their proper parts, have small powers, and one of the first MAX_OPERATORS returns.
-use Rattle.std.proofs.Common.{◌≡◌, ◌<◌, ℕ, List, length, ⊎_elim, sym, subst, Contains, Some, slice_get}
-use Rattle.std.proofs.lemmas.Option.{slice_get_within}
+use Rattle.std.proofs.Common.{◌≡◌, ℕ, List, length, ⊎_elim, sym, subst, Contains, Some, slice_get}
 use Rattle.std.proofs.lemmas.List.Elements.{All-contains}
 use Rattle.lattice_algebra.specs.Matrix.{Matrix, det}
-use Rattle.lattice_algebra.specs.Operator.{Operator, HasEntriesWithin, identity_operator}
+use Rattle.lattice_algebra.specs.Operator.{Operator, HasEntriesWithin}
 use Rattle.lattice_algebra.specs.Powers.{power}
 use Rattle.lattice_algebra.proofs.Powers.{power-opposite, within-opposite}
 use Rattle.exact_ops.specs.Narrow.{IsNarrow}
 use Rattle.group_closure.specs.GroupList.{IsGroup}
-use Rattle.group_closure.proofs.Places.{contains_at}
+use Rattle.group_closure.proofs.Places.{contains_at, some_member}
 use Rattle.op_types.specs.SmallPowers.{HasSmallPowers}
 use Rattle.op_types.specs.ProperPart.{IsProperPart, opposite}
 use Rattle.op_types.proofs.Members.{narrow_member, power-length, proper_or_not}
 use Rattle.op_types.proofs.Orders.{proper_power}
 
-some_members : (members : List Operator) → IsGroup members → 0 < length members
-some_members members g = slice_get_within members 0 identity_operator g.first
-
 pub small_powers : (members : List Operator) (f : Operator) → IsGroup members → Contains members f → HasSmallPowers f.w
 small_powers members f g c = record {
   narrow = narrow_member members f g c;
   period = length members;
-  positive = some_members members g;
+  positive = some_member members g;
   short = g.within;
   returns = power-length members f g c;
 }
@@ -40,7 +36,7 @@ small_part members f p g c h =
     record {
       narrow = λ k. narrow_part f.w p k h (narrow_member members f g c);
       period = length members;
-      positive = some_members members g;
+      positive = some_member members g;
       short = g.within;
       returns = proper_power f.w p (length members) valid.unimodular h (power-length members f g c);
     }

@@ -1,10 +1,9 @@
 -- Each member of a group has a type.
-use Rattle.std.proofs.Common.{◌≡◌, ◌≢◌, ◌⊎◌, inl, inr, ⊎_elim, ◌↔◌, Bool, true, false, IsTrue, ℕ, zero, suc, ◌*◌, ◌+◌, ◌%◌, ◌<◌, ◌≤◌, ℤ, pos, ◌*ℤ◌, ◌<ℤ◌, neg_ℤ, unsigned_abs, int_eq, List, Contains, Option, Some, None, ap, sym, subst, refl, arith}
+use Rattle.std.proofs.Common.{◌≡◌, ◌≢◌, ◌⊎◌, inl, inr, ⊎_elim, ◌↔◌, Bool, true, false, IsTrue, ℕ, zero, suc, ◌*◌, ◌+◌, ◌<◌, ◌≤◌, ℤ, pos, ◌*ℤ◌, ◌<ℤ◌, neg_ℤ, unsigned_abs, int_eq, List, Contains, Option, Some, None, ap, sym, subst, refl, arith}
 use Rattle.std.specs.Cmp.{signed_Decides}
-use Rattle.std.specs.Int.{IsGcd, ◌∣◌}
+use Rattle.std.specs.Int.{◌∣◌}
 use Rattle.std.proofs.lemmas.Bool.{cases_lt, false≢true}
 use Rattle.std.proofs.lemmas.Int.{ints}
-use Rattle.std.proofs.lemmas.Nat.Gcd.{IsGcd-from_mod, IsGcd-from_zero}
 use Rattle.lattice_algebra.specs.Matrix.{Matrix, Column, det, ◌·ᶜ◌, origin, identity, no_matrix}
 use Rattle.lattice_algebra.specs.Operator.{Operator, AreWithin}
 use Rattle.lattice_algebra.specs.Powers.{power, sum_of_powers, IsOrder}
@@ -21,8 +20,8 @@ use Rattle.op_types.proofs.Members.{proper_or_not}
 use Rattle.op_types.proofs.SmallPowers.{small_powers, small_part}
 use Rattle.op_types.proofs.Lines.{x_image, y_image, z_image, each_image, parallel_to}
 use Rattle.op_types.proofs.Divisors.{gcd_divides, gcd_greatest, gcd_size, no_divisor_left, directed_part, directed_opposite, opposite_divides}
-use Rattle.lattice_algebra.proofs.Numbers.{abs_neg}
-use Rattle.op_types.proofs.FixedColumns.{zero_or_other, some_order, along_by, no_line_of_nothing, line_parallel, reduced_axis}
+use Rattle.lattice_algebra.proofs.Numbers.{abs_neg, some_gcd, zero_or_other}
+use Rattle.op_types.proofs.FixedColumns.{some_order, along_by, no_line_of_nothing, line_parallel, reduced_axis}
 
 -- ---- what can be decided
 
@@ -106,17 +105,6 @@ images_along s a =
     ⊎_elim (λ h. inl (each_image s a h.0 h.1.0 h.1.1))
     (λ n. inr (λ h. n (parallel_to s a (x_column_of s) (x_image s) h, (parallel_to s a (y_column_of s) (y_image s) h, parallel_to s a (z_column_of s) (z_image s) h))))
     (both (parallel_or_not a (x_column_of s)) (both (parallel_or_not a (y_column_of s)) (parallel_or_not a (z_column_of s))))
-
--- ---- the greatest common divisor
-
--- by Euclid, where the second number is at most n
-gcd_below : (n a b : ℕ) → b ≤ n → (g : ℕ) × IsGcd a b g
-gcd_below n a zero l = (a, IsGcd-from_zero a 0 refl)
-gcd_below zero a (suc b) l = absurd (omega arith)
-gcd_below (suc n) a (suc b) l = let h = gcd_below n (suc b) (a % suc b) (omega arith) in (h.0, IsGcd-from_mod a (suc b) h.0 h.1)
-
-some_gcd : (a b : ℕ) → (g : ℕ) × IsGcd a b g
-some_gcd a b = gcd_below b a b (omega arith)
 
 sum_within : (x y z : ℤ) → AreWithin (unsigned_abs x + unsigned_abs y + unsigned_abs z) x y z
 sum_within x y z = record { first = omega arith; second = omega arith; third = omega arith }

@@ -1,12 +1,12 @@
 -- The number of points of an orbit as a quotient.
 use Rattle.std.proofs.Common.{◌≡◌, ◌<◌, ◌*◌, ◌/◌, ℕ, List, length, arith, ap, sym, ◌∙◌, subst}
 use Rattle.std.proofs.Math.Nat.{dvd-mul_right, pos_of_dvd_of_pos}
-use Rattle.std.proofs.lemmas.Option.{slice_get_within}
-use Rattle.lattice_algebra.specs.Operator.{Operator, identity_operator}
+use Rattle.lattice_algebra.specs.Operator.{Operator}
 use Rattle.lattice_algebra.specs.Map.{Map}
 use Rattle.lattice_algebra.specs.Point.{Point, IsPoint}
 use Rattle.exact_ops.specs.declared.TheConstants.{UNIT}
 use Rattle.group_closure.specs.GroupList.{IsGroup}
+use Rattle.group_closure.proofs.Places.{some_member}
 use Rattle.space_groups.specs.Lists.{IsSiteList, IsOrbitList}
 use Rattle.space_groups.proofs.Laws.{order_times_multiplicity, some_site, some_orbit}
 use Rattle.site_symmetry.proofs.SpaceOfGroup.{space_of}
@@ -19,9 +19,6 @@ quotient : (a b n : ℕ) → 0 < a → a * b ≡ n → n / a ≡ b
 quotient a b n l e = grind arith
 
 module _ (members : List Operator) (x : Point) (order : ℕ) (group : IsGroup members) (point : IsPoint x) (is : IsOrderAt members x order) where
-  some_member : 0 < length members
-  some_member = slice_get_within members 0 identity_operator group.first
-
   -- the order times the number of points
   product : (orbit : List Point) → IsOrbitList UNIT members x orbit → order * length orbit ≡ length members
   product orbit o =
@@ -31,7 +28,7 @@ module _ (members : List Operator) (x : Point) (order : ℕ) (group : IsGroup me
   pub some_order : 0 < order
   some_order =
       let o = some_orbit (space_of members group) x point in
-      pos_of_dvd_of_pos (dvd-mul_right order (length o.0)) (subst (λ n. 0 < n) (sym (product o.0 o.1)) some_member)
+      pos_of_dvd_of_pos (dvd-mul_right order (length o.0)) (subst (λ n. 0 < n) (sym (product o.0 o.1)) (some_member members group))
 
   pub as_many : (orbit : List Point) → IsOrbitList UNIT members x orbit → length members / order ≡ length orbit
   as_many orbit o = quotient order (length orbit) (length members) some_order (product orbit o)
