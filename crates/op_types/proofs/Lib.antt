@@ -4,6 +4,7 @@ mod SmallPowers
 mod Orders
 mod IntrinsicParts
 mod Lines
+mod Directions
 mod Divisors
 mod FixedColumns
 pub mod OneType

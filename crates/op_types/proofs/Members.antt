@@ -1,10 +1,10 @@
 -- The matrices of the members of a group: their powers, and their proper parts.
-use Rattle.std.proofs.Common.{◌≡◌, ℕ, zero, suc, List, length, inl, inr, ⊎_elim, sym, ap, subst, ◌∙◌, refl, arith, Contains, ℤ, pos, negsuc, ◌<ℤ◌, ◌⊎◌}
-use Rattle.std.proofs.lemmas.Int.{ints}
+use Rattle.std.proofs.Common.{◌≡◌, ℕ, zero, suc, List, length, ⊎_elim, sym, ap, subst, ◌∙◌, refl, Contains}
 use Rattle.std.proofs.lemmas.List.Elements.{All-contains}
 use Rattle.lattice_algebra.specs.Matrix.{Matrix, det, identity, ◌·◌}
 use Rattle.lattice_algebra.specs.Operator.{Operator, product, HasEntriesWithin}
 use Rattle.lattice_algebra.specs.Powers.{power}
+use Rattle.lattice_algebra.proofs.Numbers.{positive_or_not}
 use Rattle.finite_groups.proofs.Powers as powers
 use Rattle.exact_ops.specs.Narrow.{IsNarrow}
 use Rattle.exact_ops.specs.declared.TheConstants.{UNIT}
@@ -33,13 +33,8 @@ power-length members f g c = sym (power-w f (length members)) ∙ ap (λ (h : Op
 
 -- ---- the proper part
 
-pub proper_or_not : (z : ℤ) → (pos 0 <ℤ z) ⊎ (pos 0 <ℤ z → ⊥)
-proper_or_not (pos zero) = inr (λ l. omega (arith, ints))
-proper_or_not (pos (suc n)) = inl (omega (arith, ints))
-proper_or_not (negsuc n) = inr (λ l. omega (arith, ints))
-
 -- a matrix has one proper part
 pub same_part : (f : Operator) (w p q : Matrix) → w ≡ f.w → IsProperPart w p → IsProperPart f.w q → p ≡ q
 same_part f w p q e h k =
     let g : IsProperPart f.w p = subst (λ m. IsProperPart m p) e h in
-    ⊎_elim (λ y. g.same y ∙ sym (k.same y)) (λ n. g.opposite_of n ∙ sym (k.opposite_of n)) (proper_or_not (det f.w))
+    ⊎_elim (λ y. g.same y ∙ sym (k.same y)) (λ n. g.opposite_of n ∙ sym (k.opposite_of n)) (positive_or_not (det f.w))

@@ -9,11 +9,11 @@ use Rattle.lattice_algebra.proofs.Ring.{known, var, con, neg, ◌⊕◌, ◌⊗�
 use Rattle.lattice_algebra.proofs.Columns.{swap_times, times-times, cancel_times, times_origin, no_times}
 use Rattle.lattice_algebra.proofs.MatrixRing.{column_at, sym_times, column_ring}
 use Rattle.exact_ops.specs.declared.TheConstants.{UNIT}
+use Rattle.lattice_algebra.proofs.Numbers.{positive_or_not}
 use Rattle.op_types.specs.ProperPart.{IsProperPart, opposite}
 use Rattle.op_types.specs.IntrinsicPart.{IsIntrinsicPart}
 use Rattle.op_types.specs.Axis.{IsAxis, IsDirected, HasNoDivisor}
 use Rattle.op_types.specs.Types.{OperationType, HasAxis, IsTypeOf}
-use Rattle.op_types.proofs.Members.{proper_or_not}
 use Rattle.op_types.proofs.FixedColumns.{some_order}
 
 -- two types that say the same: the intrinsic parts are equal as fractions
@@ -34,7 +34,7 @@ same_truth false false f g = refl
 
 some_proper_part : (w : Matrix) → (p : Matrix) × IsProperPart w p
 some_proper_part w =
-    ⊎_elim (λ y. (w, record { same = λ z. refl; opposite_of = λ n. absurd (n y) })) (λ n. (opposite w, record { same = λ y. absurd (n y); opposite_of = λ z. refl })) (proper_or_not (det w))
+    ⊎_elim (λ y. (w, record { same = λ z. refl; opposite_of = λ n. absurd (n y) })) (λ n. (opposite w, record { same = λ y. absurd (n y); opposite_of = λ z. refl })) (positive_or_not (det w))
 
 pub same_order : (p : Matrix) (j k : ℕ) → IsOrder p j → IsOrder p k → j ≡ k
 same_order p j k h i =

@@ -13,8 +13,9 @@ use Rattle.lattice_algebra.proofs.Matrices.{identity-·, det-·, IsUnimodular-de
 use Rattle.lattice_algebra.proofs.Powers.{power-zero, power-more, power-add, power-opposite}
 use Rattle.exact_ops.specs.Narrow.{IsNarrow}
 use Rattle.group_closure.specs.GroupList.{IsGroup}
+use Rattle.lattice_algebra.proofs.Numbers.{positive_or_not}
 use Rattle.op_types.specs.ProperPart.{IsProper, IsProperPart, opposite}
-use Rattle.op_types.proofs.Members.{power-length, proper_or_not}
+use Rattle.op_types.proofs.Members.{power-length}
 
 -- ---- the powers that are the identity
 
@@ -69,7 +70,7 @@ is_improper w u n = ⊎_elim (λ e. absurd (n (omega (arith, ints)))) (λ e. e) 
 
 pub proper_power : (w p : Matrix) (n : ℕ) → IsUnimodular w → IsProperPart w p → power w n ≡ identity → power p n ≡ identity
 proper_power w p n u h e =
-    ⊎_elim (λ y. ap (λ m. power m n) (h.same y) ∙ e) (λ m. ap (λ q. power q n) (h.opposite_of m) ∙ improper_power w n (is_improper w u m) e) (proper_or_not (det w))
+    ⊎_elim (λ y. ap (λ m. power m n) (h.same y) ∙ e) (λ m. ap (λ q. power q n) (h.opposite_of m) ∙ improper_power w n (is_improper w u m) e) (positive_or_not (det w))
 
 -- ---- the members of a group
 

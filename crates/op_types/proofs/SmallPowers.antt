@@ -8,9 +8,10 @@ use Rattle.lattice_algebra.proofs.Powers.{power-opposite, within-opposite}
 use Rattle.exact_ops.specs.Narrow.{IsNarrow}
 use Rattle.group_closure.specs.GroupList.{IsGroup}
 use Rattle.group_closure.proofs.Places.{contains_at, some_member}
+use Rattle.lattice_algebra.proofs.Numbers.{positive_or_not}
 use Rattle.op_types.specs.SmallPowers.{HasSmallPowers}
 use Rattle.op_types.specs.ProperPart.{IsProperPart, opposite}
-use Rattle.op_types.proofs.Members.{narrow_member, power-length, proper_or_not}
+use Rattle.op_types.proofs.Members.{narrow_member, power-length}
 use Rattle.op_types.proofs.Orders.{proper_power}
 
 pub small_powers : (members : List Operator) (f : Operator) → IsGroup members → Contains members f → HasSmallPowers f.w
@@ -28,7 +29,7 @@ narrow_opposite w k h =
 
 narrow_part : (w p : Matrix) (k : ℕ) → IsProperPart w p → ((k : ℕ) → HasEntriesWithin 2 (power w k)) → HasEntriesWithin 2 (power p k)
 narrow_part w p k h n =
-    ⊎_elim (λ y. subst (λ m. HasEntriesWithin 2 (power m k)) (sym (h.same y)) (n k)) (λ m. subst (λ m. HasEntriesWithin 2 (power m k)) (sym (h.opposite_of m)) (narrow_opposite w k n)) (proper_or_not (det w))
+    ⊎_elim (λ y. subst (λ m. HasEntriesWithin 2 (power m k)) (sym (h.same y)) (n k)) (λ m. subst (λ m. HasEntriesWithin 2 (power m k)) (sym (h.opposite_of m)) (narrow_opposite w k n)) (positive_or_not (det w))
 
 pub small_part : (members : List Operator) (f : Operator) (p : Matrix) → IsGroup members → Contains members f → IsProperPart f.w p → HasSmallPowers p
 small_part members f p g c h =

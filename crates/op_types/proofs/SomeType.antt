@@ -1,11 +1,11 @@
 -- Each member of a group has a type.
-use Rattle.std.proofs.Common.{◌≡◌, ◌≢◌, ◌⊎◌, inl, inr, ⊎_elim, ◌↔◌, Bool, true, false, IsTrue, ℕ, zero, suc, ◌*◌, ◌+◌, ◌<◌, ◌≤◌, ℤ, pos, ◌*ℤ◌, ◌<ℤ◌, neg_ℤ, unsigned_abs, int_eq, List, Contains, Option, Some, None, ap, sym, subst, refl, arith}
+use Rattle.std.proofs.Common.{◌≡◌, ◌≢◌, ◌⊎◌, inl, inr, ⊎_elim, ◌↔◌, Bool, true, false, IsTrue, ℕ, zero, suc, ◌*◌, ◌<◌, ◌≤◌, ℤ, pos, ◌*ℤ◌, ◌<ℤ◌, neg_ℤ, unsigned_abs, int_eq, List, Contains, Option, Some, None, ap, sym, subst, refl, arith}
 use Rattle.std.specs.Cmp.{signed_Decides}
 use Rattle.std.specs.Int.{◌∣◌}
 use Rattle.std.proofs.lemmas.Bool.{cases_lt, false≢true}
 use Rattle.std.proofs.lemmas.Int.{ints}
 use Rattle.lattice_algebra.specs.Matrix.{Matrix, Column, det, ◌·ᶜ◌, origin, identity, no_matrix}
-use Rattle.lattice_algebra.specs.Operator.{Operator, AreWithin}
+use Rattle.lattice_algebra.specs.Operator.{Operator}
 use Rattle.lattice_algebra.specs.Powers.{power, sum_of_powers, IsOrder}
 use Rattle.lattice_algebra.proofs.Equality.{matrix_eq, matrix_eq-is}
 use Rattle.exact_ops.specs.declared.TheConstants.{UNIT}
@@ -15,13 +15,13 @@ use Rattle.op_types.specs.IntrinsicPart.{IsIntrinsicPart}
 use Rattle.op_types.specs.Axis.{IsAlong, IsAxis, IsDirected}
 use Rattle.op_types.specs.Types.{OperationType, HasAxis, IsTypeOf}
 use Rattle.op_types.specs.SmallPowers.{HasSmallPowers}
-use Rattle.op_types.specs.Vector.{AreParallel, IsImage, x_column_of, y_column_of, z_column_of}
-use Rattle.op_types.proofs.Members.{proper_or_not}
+use Rattle.op_types.specs.Vector.{AreParallel, Divides, IsImage, x_column_of, y_column_of, z_column_of}
 use Rattle.op_types.proofs.SmallPowers.{small_powers, small_part}
 use Rattle.op_types.proofs.Lines.{x_image, y_image, z_image, each_image, parallel_to}
-use Rattle.op_types.proofs.Divisors.{gcd_divides, gcd_greatest, gcd_size, no_divisor_left, directed_part, directed_opposite, opposite_divides}
-use Rattle.lattice_algebra.proofs.Numbers.{abs_neg, some_gcd, zero_or_other}
-use Rattle.op_types.proofs.FixedColumns.{some_order, along_by, no_line_of_nothing, line_parallel, reduced_axis}
+use Rattle.op_types.proofs.Directions.{leading, directed_leading, no_leading, directed_part, directed_opposite}
+use Rattle.op_types.proofs.Divisors.{some_divisor, no_divisor_left, opposite_divides}
+use Rattle.lattice_algebra.proofs.Numbers.{abs_neg, zero_or_other, positive_or_not}
+use Rattle.op_types.proofs.FixedColumns.{along_by, no_line_of_nothing, line_parallel, reduced_axis}
 
 -- ---- what can be decided
 
@@ -35,9 +35,6 @@ by_test false h = inr (λ p. false≢true (h.1 p))
 both : {P Q : Type 0} → Decided P → Decided Q → Decided (P × Q)
 both p q = ⊎_elim (λ x. ⊎_elim (λ y. inl (x, y)) (λ n. inr (λ h. n h.1)) q) (λ n. inr (λ h. n h.0)) p
 
-one_of : {P Q : Type 0} → Decided P → Decided Q → Decided (P ⊎ Q)
-one_of p q = ⊎_elim (λ x. inl (inl x)) (λ n. ⊎_elim (λ y. inl (inr y)) (λ m. inr (λ h. ⊎_elim n m h)) q) p
-
 same_number : (x y : ℤ) → Decided (x ≡ y)
 same_number x y = by_test (int_eq x y) (signed_Decides x y)
 
@@ -45,7 +42,7 @@ same_matrix : (m n : Matrix) → Decided (m ≡ n)
 same_matrix m n = by_test (matrix_eq m n) (matrix_eq-is m n (matrix_eq m n) refl)
 
 directed_or_not : (a : Column) → Decided (IsDirected a)
-directed_or_not a = one_of (proper_or_not a.x) (both (zero_or_other a.x) (one_of (proper_or_not a.y) (both (zero_or_other a.y) (proper_or_not a.z))))
+directed_or_not a = let d = directed_leading a in ⊎_elim (λ l. inl (d.1 l)) (λ n. inr (λ h. n (d.0 h))) (positive_or_not (leading a))
 
 parallel_or_not : (a b : Column) → Decided (AreParallel a b)
 parallel_or_not a b =
@@ -53,9 +50,7 @@ parallel_or_not a b =
     (both (same_number (a.x *ℤ b.y) (a.y *ℤ b.x)) (both (same_number (a.y *ℤ b.z) (a.z *ℤ b.y)) (same_number (a.z *ℤ b.x) (a.x *ℤ b.z))))
 
 origin_or_other : (c : Column) → Decided (c ≡ origin)
-origin_or_other c =
-    ⊎_elim (λ h. inl (λ i. record { x = h.0 i; y = h.1.0 i; z = h.1.1 i })) (λ n. inr (λ e. n (ap (λ (v : Column). v.x) e, (ap (λ (v : Column). v.y) e, ap (λ (v : Column). v.z) e))))
-    (both (zero_or_other c.x) (both (zero_or_other c.y) (zero_or_other c.z)))
+origin_or_other c = ⊎_elim (λ z. inl (no_leading c z)) (λ n. inr (λ e. n (ap leading e))) (zero_or_other (leading c))
 
 -- ---- the order: the least power that returns, where one does
 
@@ -106,33 +101,18 @@ images_along s a =
     (λ n. inr (λ h. n (parallel_to s a (x_column_of s) (x_image s) h, (parallel_to s a (y_column_of s) (y_image s) h, parallel_to s a (z_column_of s) (z_image s) h))))
     (both (parallel_or_not a (x_column_of s)) (both (parallel_or_not a (y_column_of s)) (parallel_or_not a (z_column_of s))))
 
-sum_within : (x y z : ℤ) → AreWithin (unsigned_abs x + unsigned_abs y + unsigned_abs z) x y z
-sum_within x y z = record { first = omega arith; second = omega arith; third = omega arith }
-
 -- ---- the axis
-
-some_opposite : (g : ℕ) → 0 < g → neg_ℤ (pos g) ≢ pos 0
-some_opposite g l e = omega (arith, ints, e)
 
 -- a column of the line, divided and directed
 directed_axis : (p : Matrix) (a : Column) → IsAlong p a → (v : Column) × IsAxis p v
 directed_axis p a l =
-    let inner = some_gcd (unsigned_abs a.y) (unsigned_abs a.z) in
-    let outer = some_gcd (unsigned_abs a.x) inner.0 in
-    let g = outer.0 in
-    let size = gcd_size a inner.0 g inner.1 outer.1 (unsigned_abs a.x + unsigned_abs a.y + unsigned_abs a.z) l.some (sum_within a.x a.y a.z) in
-    let divides = gcd_divides a inner.0 g inner.1 outer.1 in
-    let greatest = gcd_greatest a inner.0 g inner.1 outer.1 in
-    let other = opposite_divides (pos g) a divides in
-    let some = some_order g size.0 in
-    let some_other = some_opposite g size.0 in
-    ⊎_elim (λ d. (divides.0, reduced_axis p a divides.0 (pos g) l some divides.1 (no_divisor_left (pos g) a divides.0 some divides.1 greatest) (directed_part g a divides.0 size.0 divides.1 d)))
-    (λ n. (
-      other.0,
-      reduced_axis p a other.0 (neg_ℤ (pos g)) l some_other other.1
-          (no_divisor_left (neg_ℤ (pos g)) a other.0 some_other other.1 (λ d h. subst (λ m. unsigned_abs d ∣ m) (sym (abs_neg (pos g))) (greatest d h)))
-          (directed_opposite g a other.0 size.0 other.1 l.some n),
-    ))
+    let g = some_divisor a l.some in
+    let opposite = opposite_divides (pos g.0) a g.1.divides in
+    let by : (k : ℤ) → unsigned_abs k ≡ g.0 → (h : Divides k a) → IsDirected h.0 → (v : Column) × IsAxis p v = λ k e h d.
+    let some : k ≢ pos 0 = λ z. absurd (omega (arith, ints, g.1.positive, e, z)) in
+    (h.0, reduced_axis p a h.0 k l some h.1 (no_divisor_left k a h.0 some h.1 (λ d h. subst (λ m. unsigned_abs d ∣ m) (sym e) (g.1.greatest d h))) d) in
+    ⊎_elim (λ d. by (pos g.0) refl g.1.divides (directed_part g.0 a g.1.divides.0 g.1.positive g.1.divides.1 d))
+    (λ n. by (neg_ℤ (pos g.0)) (abs_neg (pos g.0)) opposite (directed_opposite g.0 a opposite.0 g.1.positive opposite.1 l.some n))
     (directed_or_not a)
 
 some_axis : (p : Matrix) (k : ℕ) → IsOrder p k → (a : Option Column) × HasAxis p a
@@ -174,4 +154,4 @@ some_type members f g c =
     let small = small_powers members f g c in
     ⊎_elim (λ y. typed f f.w true small small (λ _. y, λ _. refl) (λ q h. h.same y))
     (λ n. typed f (opposite f.w) false small (small_part members f (opposite f.w) g c (record { same = λ y. absurd (n y); opposite_of = λ _. refl })) (λ t. absurd (false≢true t), λ y. absurd (n y)) (λ q h. h.opposite_of n))
-    (proper_or_not (det f.w))
+    (positive_or_not (det f.w))

@@ -4,7 +4,8 @@ use Rattle.std.specs.Int.{◌∣◌}
 use Rattle.lattice_algebra.specs.Matrix.{times}
 use Rattle.op_types.specs.Vector.{column_in, Divides}
 use Rattle.lattice_algebra.proofs.Numbers.{positive_size, positive_is, abs_neg}
-use Rattle.op_types.proofs.Divisors.{same_back, opposite_back, opposite_divides, directed_part, directed_opposite}
+use Rattle.op_types.proofs.Directions.{directed_part, directed_opposite}
+use Rattle.op_types.proofs.Divisors.{same_back, opposite_back, opposite_divides}
 use Rattle.op_types.proofs.vector.Vector.signed_divisor.Goals as goal
 
 pub returns-then-is_directed-clause-greatest : goal.returns-then-is_directed-clause-greatest
