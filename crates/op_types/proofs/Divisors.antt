@@ -1,5 +1,5 @@
 -- Common divisors of the entries of a column, and what is left when it is divided by them.
-use Rattle.std.proofs.Common.{◌≡◌, ◌≢◌, ◌∷◌, [], ℕ, suc, ◌*◌, ◌/◌, ◌^◌, ◌<◌, ◌≤◌, ℤ, pos, negsuc, ◌-ℤ◌, ◌*ℤ◌, neg_ℤ, unsigned_abs, int_div, FitsSigned, w32, to_z, of_z, ap, ap₂, sym, subst, ◌∙◌, arith, le_trans}
+use Rattle.std.proofs.Common.{◌≡◌, ◌≢◌, ◌∷◌, [], ℕ, suc, ◌*◌, ◌/◌, ◌^◌, ◌<◌, ◌≤◌, ℤ, pos, negsuc, ◌-ℤ◌, ◌*ℤ◌, neg_ℤ, unsigned_abs, int_div, FitsSigned, w32, to_z, of_z, ap, ap₂, sym, subst, ◌∙◌, refl, arith, le_trans}
 use Rattle.std.specs.Int.{IsGcd, ◌∣◌}
 use Rattle.std.proofs.lemmas.Int.{ints, unsigned_abs-mul, fits_signed_from_abs, to_z-of_z}
 use Rattle.std.proofs.lemmas.Nat.Gcd.{le_of_dvd, dvd_trans}
@@ -9,8 +9,8 @@ use Rattle.lattice_algebra.specs.Operator.{AreWithin}
 use Rattle.lattice_algebra.proofs.Ring.{var, con, ◌⊗◌, neg, ring}
 use Rattle.lattice_algebra.proofs.Quotients.{rem_of_multiple, multiple_of_quotient}
 use lib.IntN.{*ℤ_comm}
-use Rattle.lattice_algebra.proofs.Columns.{times-times}
-use Rattle.lattice_algebra.proofs.Numbers.{some_size, some_gcd}
+use Rattle.lattice_algebra.proofs.Columns.{times-times, cancel_times, times_origin}
+use Rattle.lattice_algebra.proofs.Numbers.{some_size, some_gcd, abs_mul}
 use Rattle.lattice_algebra.proofs.MatrixRing.{column_at, sym_times, column_ring}
 use Rattle.group_closure.specs.declared.TheConstants.{MAX_OPERATORS}
 use Rattle.op_types.specs.Axis.{HasNoDivisor}
@@ -89,6 +89,27 @@ unfolding times
 opposite_divides k c h =
     let b = h.0 in
     (times (negsuc 0) b, h.1 ∙ column_ring (k ∷ coordinates b) (sym_times (var 0) (column_at 1)) (sym_times (neg (var 0)) (sym_times (con (negsuc 0)) (column_at 1))) tt)
+
+-- each divisor of a multiple of a column without divisor divides the factor
+pub whole_divisor : (k : ℤ) (a : Column) → k ≢ pos 0 → a ≢ origin → HasNoDivisor a → (d : ℤ) → Divides d (times k a) → unsigned_abs d ∣ unsigned_abs k
+whole_divisor k a some_k some whole d h =
+    let g = some_divisor (times k a) (λ z. some (cancel_times k a origin some_k (z ∙ sym (times_origin k)))) in
+    let b = g.1.divides.0 in
+    let divides : unsigned_abs k ∣ g.0 = g.1.greatest k (a, refl) in
+    let j = factor_of k (pos g.0) divides in
+    let one = no_greater j.0 a b whole (cancel_times k a (times j.0 b) some_k (g.1.divides.1 ∙ ap (λ n. times n b) j.1 ∙ sym (times-times k j.0 b))) in
+    let above : g.0 ≤ unsigned_abs k * 1 = subst (λ n. unsigned_abs n ≤ unsigned_abs k * 1) (sym j.1) (abs_mul k j.0 1 one) in
+    let below = le_of_dvd g.1.positive divides in
+    let same : g.0 ≡ unsigned_abs k = omega (arith, above, below) in
+    subst (λ n. unsigned_abs d ∣ n) same (g.1.greatest d h)
+  where
+    no_greater : (j : ℤ) (a b : Column) → HasNoDivisor a → a ≡ times j b → unsigned_abs j ≤ 1
+    no_greater (pos n) a b whole e = whole n b e
+    no_greater (negsuc n) a b whole e = let o = opposite_divides (negsuc n) a (b, e) in whole (suc n) o.0 o.1
+
+    factor_of : (k x : ℤ) → unsigned_abs k ∣ unsigned_abs x → (j : ℤ) × (x ≡ k *ℤ j)
+    factor_of (pos n) x h = signed_multiple x n h
+    factor_of (negsuc n) x h = let r = signed_multiple x (suc n) h in (neg_ℤ r.0, r.1 ∙ ring (pos (suc n) ∷ r.0 ∷ []) (var 0 ⊗ var 1) (neg (var 0) ⊗ neg (var 1)) tt)
 
 -- ---- what the code computes
 
