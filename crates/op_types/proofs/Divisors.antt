@@ -144,15 +144,3 @@ pub column_quotient : (c : Column) (k x y z : ℤ) → AreWithin (2 * MAX_OPERAT
     → c ≡ times k (record { x = to_z w32 (of_z w32 x); y = to_z w32 (of_z w32 y); z = to_z w32 (of_z w32 z) })
 unfolding times
 column_quotient c k x y z w m f ex ey ez = λ i. record { x = entry_quotient c.x k x w.first m f.0 ex i; y = entry_quotient c.y k y w.second m f.1 ey i; z = entry_quotient c.z k z w.third m f.2 ez i }
-
-pub x_multiple : (c : Column) (k : ℤ) (h : Divides k c) → c.x ≡ k *ℤ h.0.x
-unfolding times
-x_multiple c k h = ap (λ (v : Column). v.x) h.1
-
-pub y_multiple : (c : Column) (k : ℤ) (h : Divides k c) → c.y ≡ k *ℤ h.0.y
-unfolding times
-y_multiple c k h = ap (λ (v : Column). v.y) h.1
-
-pub z_multiple : (c : Column) (k : ℤ) (h : Divides k c) → c.z ≡ k *ℤ h.0.z
-unfolding times
-z_multiple c k h = ap (λ (v : Column). v.z) h.1

@@ -1,10 +1,10 @@
 -- The columns that a matrix of finite order fixes are those that the columns of the sum of its powers span.
-use Rattle.std.proofs.Common.{◌≡◌, ◌≢◌, ⊎_elim, ◌∷◌, [], ℕ, ◌<◌, ℤ, pos, negsuc, ◌*ℤ◌, ap, sym, subst, ◌∙◌, refl, arith}
+use Rattle.std.proofs.Common.{◌≡◌, ◌≢◌, ⊎_elim, ◌∷◌, [], ℕ, ◌<◌, ℤ, pos, ◌*ℤ◌, ap, sym, subst, ◌∙◌, refl, arith}
 use Rattle.std.proofs.lemmas.Int.{ints}
 use lib.IntN.{*ℤ_comm}
 use Rattle.lattice_algebra.specs.Matrix.{Matrix, Column, ◌·◌, ◌·ᶜ◌, times, origin, no_matrix}
 use Rattle.lattice_algebra.specs.Powers.{sum_of_powers, IsOrder}
-use Rattle.lattice_algebra.proofs.Ring.{known, var, con, ◌⊗◌, ring_from}
+use Rattle.lattice_algebra.proofs.Ring.{known, var, con, ◌⊗◌, ring, ring_from}
 use Rattle.lattice_algebra.proofs.Columns.{cancel_times, times_origin, times-times, ·ᶜ-times}
 use Rattle.lattice_algebra.proofs.Matrices.{·ᶜ_assoc}
 use Rattle.lattice_algebra.proofs.Numbers.{cancel_some, zero_or_other}
@@ -27,20 +27,18 @@ parallel_cancel k a c some p = record {
   zx = parallel_entry k a.z a.x c.z c.x some p.zx;
 }
 
-cross_times : (m k n l u w v t a b : ℤ) → m *ℤ u ≡ k *ℤ a → m *ℤ w ≡ k *ℤ b → n *ℤ v ≡ l *ℤ a → n *ℤ t ≡ l *ℤ b → n *ℤ (m *ℤ (u *ℤ t)) ≡ n *ℤ (m *ℤ (w *ℤ v))
-cross_times m k n l u w v t a b eu ew ev et =
-    let M = var 0 in
-    let K = var 1 in
-    let N = var 2 in
-    let L = var 3 in
-    let U = var 4 in
-    let W = var 5 in
-    let V = var 6 in
-    let T = var 7 in
-    let A = var 8 in
-    let B = var 9 in
-    ring_from (m ∷ k ∷ n ∷ l ∷ u ∷ w ∷ v ∷ t ∷ a ∷ b ∷ []) (N ⊗ (M ⊗ (U ⊗ T))) (N ⊗ (M ⊗ (W ⊗ V)))
-    (known (N ⊗ T) (M ⊗ U) (K ⊗ A) ∷ known (K ⊗ A) (N ⊗ T) (L ⊗ B) ∷ known (con (negsuc 0) ⊗ (N ⊗ V)) (M ⊗ W) (K ⊗ B) ∷ known (con (negsuc 0) ⊗ (K ⊗ B)) (N ⊗ V) (L ⊗ A) ∷ []) (eu, (et, (ew, (ev, tt)))) tt
+parallel_swap : (a c : Column) → AreParallel a c → AreParallel c a
+parallel_swap a c p = record { xy = swap a.x a.y c.x c.y p.xy; yz = swap a.y a.z c.y c.z p.yz; zx = swap a.z a.x c.z c.x p.zx }
+  where
+    swap : (x y u v : ℤ) → x *ℤ v ≡ y *ℤ u → u *ℤ y ≡ v *ℤ x
+    swap x y u v e = *ℤ_comm u y ∙ sym e ∙ *ℤ_comm x v
+
+parallel_times : (k l : ℤ) (a : Column) → AreParallel (times k a) (times l a)
+unfolding times
+parallel_times k l a = record { xy = swap k l a.x a.y; yz = swap k l a.y a.z; zx = swap k l a.z a.x }
+  where
+    swap : (k l x y : ℤ) → k *ℤ x *ℤ (l *ℤ y) ≡ k *ℤ y *ℤ (l *ℤ x)
+    swap k l x y = let X = var 2 in let Y = var 3 in ring (k ∷ l ∷ x ∷ y ∷ []) (var 0 ⊗ X ⊗ (var 1 ⊗ Y)) (var 0 ⊗ Y ⊗ (var 1 ⊗ X)) tt
 
 -- ---- multiples
 
@@ -55,21 +53,9 @@ multiple_of a c some p =
 
 -- multiples of one column are on one line
 pub multiples_parallel : (a u v : Column) → IsMultiple a u → IsMultiple a v → AreParallel u v
-unfolding times
 multiples_parallel a u v p q =
-    let e = p.3 in
-    let f = q.3 in
-    let x = λ (c : Column). c.x in
-    let y = λ (c : Column). c.y in
-    let z = λ (c : Column). c.z in
-    record {
-      xy = cross p.0 p.1 q.0 q.1 u.x u.y v.x v.y a.x a.y p.2 q.2 (ap x e) (ap y e) (ap x f) (ap y f);
-      yz = cross p.0 p.1 q.0 q.1 u.y u.z v.y v.z a.y a.z p.2 q.2 (ap y e) (ap z e) (ap y f) (ap z f);
-      zx = cross p.0 p.1 q.0 q.1 u.z u.x v.z v.x a.z a.x p.2 q.2 (ap z e) (ap x e) (ap z f) (ap x f);
-    }
-  where
-    cross : (m k n l u w v t a b : ℤ) → m ≢ pos 0 → n ≢ pos 0 → m *ℤ u ≡ k *ℤ a → m *ℤ w ≡ k *ℤ b → n *ℤ v ≡ l *ℤ a → n *ℤ t ≡ l *ℤ b → u *ℤ t ≡ w *ℤ v
-    cross m k n l u w v t a b hm hn eu ew ev et = cancel_some m (u *ℤ t) (w *ℤ v) hm (cancel_some n (m *ℤ (u *ℤ t)) (m *ℤ (w *ℤ v)) hn (cross_times m k n l u w v t a b eu ew ev et))
+    let first = parallel_cancel p.0 (times q.1 a) u p.2 (subst (AreParallel (times q.1 a)) (sym p.3) (parallel_times q.1 p.1 a)) in
+    parallel_cancel q.0 u v q.2 (subst (AreParallel u) (sym q.3) (parallel_swap (times q.1 a) u first))
 
 -- ---- what is fixed
 

@@ -1,37 +1,32 @@
-use Rattle.std.proofs.Common.{rules, FitsSigned, w32}
+use Rattle.std.proofs.Common.{◌≡◌, ap, rules, FitsSigned, w32, to_z, of_z}
+use Rattle.lattice_algebra.specs.Matrix.{Column, times}
 use Rattle.op_types.specs.Vector.{column_in}
-use Rattle.op_types.proofs.Divisors.{entry_divides, column_quotient, x_multiple, y_multiple, z_multiple, no_divisor_left}
+use Rattle.op_types.proofs.Divisors.{entry_divides, column_quotient, no_divisor_left}
 use Rattle.op_types.proofs.vector.Vector.reduced.Goals as goal
 
 pub quotient-requires-clause-divides : goal.quotient-requires-clause-divides
-quotient-requires-clause-divides c =
-    let k = c.signed_divisor-divisor.ensures in
-    entry_divides c.args.self.now.x c.signed_divisor-divisor.result k.divides.0.x c.requires.within.first k.small (x_multiple (column_in c.args.self.now) _ k.divides)
+unfolding times
+quotient-requires-clause-divides c = let k = c.signed_divisor-divisor.ensures in entry_divides _ _ k.divides.0.x c.requires.within.first k.small (ap (λ (v : Column). v.x) k.divides.1)
 
 pub quotient-requires-2-clause-divides : goal.quotient-requires-2-clause-divides
-quotient-requires-2-clause-divides c =
-    let k = c.signed_divisor-divisor.ensures in
-    entry_divides c.args.self.now.y c.signed_divisor-divisor.result k.divides.0.y c.requires.within.second k.small (y_multiple (column_in c.args.self.now) _ k.divides)
+unfolding times
+quotient-requires-2-clause-divides c = let k = c.signed_divisor-divisor.ensures in entry_divides _ _ k.divides.0.y c.requires.within.second k.small (ap (λ (v : Column). v.y) k.divides.1)
 
 pub quotient-requires-3-clause-divides : goal.quotient-requires-3-clause-divides
-quotient-requires-3-clause-divides c =
-    let k = c.signed_divisor-divisor.ensures in
-    entry_divides c.args.self.now.z c.signed_divisor-divisor.result k.divides.0.z c.requires.within.third k.small (z_multiple (column_in c.args.self.now) _ k.divides)
+unfolding times
+quotient-requires-3-clause-divides c = let k = c.signed_divisor-divisor.ensures in entry_divides _ _ k.divides.0.z c.requires.within.third k.small (ap (λ (v : Column). v.z) k.divides.1)
+
+-- the vector is the divisor times the three quotients
+divided : (c : goal.After-quotient-3) → column_in c.args.self.now ≡ times c.signed_divisor-divisor.result (record { x = to_z w32 (of_z w32 c.quotient.result); y = to_z w32 (of_z w32 c.quotient-2.result); z = to_z w32 (of_z w32 c.quotient-3.result) })
+divided c =
+    let f : (FitsSigned w32 c.quotient.result) × (FitsSigned w32 c.quotient-2.result) × (FitsSigned w32 c.quotient-3.result) = search rules in
+    column_quotient (column_in c.args.self.now) c.signed_divisor-divisor.result _ _ _ c.requires.within c.signed_divisor-divisor.ensures.small f c.quotient.ensures c.quotient-2.ensures c.quotient-3.ensures
 
 pub returns-clause-same : goal.returns-clause-same
-returns-clause-same c =
-    let k = c.signed_divisor-divisor.ensures in
-    let f : (FitsSigned w32 c.quotient.result) × (FitsSigned w32 c.quotient-2.result) × (FitsSigned w32 c.quotient-3.result) = search rules in
-    (c.signed_divisor-divisor.result, k.some, column_quotient (column_in c.args.self.now) c.signed_divisor-divisor.result _ _ _ c.requires.within k.small f c.quotient.ensures c.quotient-2.ensures c.quotient-3.ensures)
+returns-clause-same c = (c.signed_divisor-divisor.result, c.signed_divisor-divisor.ensures.some, divided c)
 
 pub returns-clause-no_divisor : goal.returns-clause-no_divisor
-returns-clause-no_divisor c =
-    let k = c.signed_divisor-divisor.ensures in
-    let f : (FitsSigned w32 c.quotient.result) × (FitsSigned w32 c.quotient-2.result) × (FitsSigned w32 c.quotient-3.result) = search rules in
-    no_divisor_left c.signed_divisor-divisor.result (column_in c.args.self.now) _ k.some (column_quotient (column_in c.args.self.now) c.signed_divisor-divisor.result _ _ _ c.requires.within k.small f c.quotient.ensures c.quotient-2.ensures c.quotient-3.ensures) k.greatest
+returns-clause-no_divisor c = let k = c.signed_divisor-divisor.ensures in no_divisor_left c.signed_divisor-divisor.result (column_in c.args.self.now) _ k.some (divided c) k.greatest
 
 pub returns-clause-directed : goal.returns-clause-directed
-returns-clause-directed c =
-    let k = c.signed_divisor-divisor.ensures in
-    let f : (FitsSigned w32 c.quotient.result) × (FitsSigned w32 c.quotient-2.result) × (FitsSigned w32 c.quotient-3.result) = search rules in
-    k.directed _ (column_quotient (column_in c.args.self.now) c.signed_divisor-divisor.result _ _ _ c.requires.within k.small f c.quotient.ensures c.quotient-2.ensures c.quotient-3.ensures)
+returns-clause-directed c = c.signed_divisor-divisor.ensures.directed _ (divided c)
