@@ -7,6 +7,7 @@ use Rattle.std.proofs.lemmas.Fmt.{length-decimal-le_wide}
 use Rattle.std.proofs.lemmas.Nat.Gcd.{IsGcd-from_zero, IsGcd-from_mod, same_from_IsGcd, le_of_dvd, dvd_of_mod-eq-zero, mod-eq-zero_of_dvd}
 use Rattle.std.proofs.lemmas.Int.{ints, unsigned_abs-mul}
 use lib.Arith.{mod-mul}
+use Rattle.lattice_algebra.proofs.Numbers.{some_gcd}
 use Rattle.triplet_text.specs.Bytes.{stroke, minus_sign}
 use Rattle.triplet_text.specs.Fractions.{common_divisor_up_to, gcd, quotient_text, fraction_text, frac_text}
 
@@ -34,11 +35,6 @@ up_to n d g (suc k) some h le =
 
 pub gcd_is : (n d g : ℕ) → 0 < d → IsGcd n d g → gcd n d ≡ g
 gcd_is n d g some h = up_to n d g d (positive n d g some h) h (le_of_dvd some h.1)
-
-some_gcd : (k n d : ℕ) → d ≤ k → (g : ℕ) × IsGcd n d g
-some_gcd zero n d le = (n, IsGcd-from_zero n d (omega arith))
-some_gcd (suc k) n zero le = (n, IsGcd-from_zero n zero refl)
-some_gcd (suc k) n (suc d) le = let r = some_gcd k (suc d) (n % suc d) (omega arith) in (r.0, IsGcd-from_mod n (suc d) r.0 r.1)
 
 -- ---- lowest terms
 
@@ -70,7 +66,7 @@ lowest_by n d g some h =
 
 pub is_lowest : (n d : ℕ) → 0 < d → IsLowest n d (n / gcd n d) (d / gcd n d)
 is_lowest n d some =
-    let r = some_gcd d n d (omega arith) in
+    let r = some_gcd n d in
     subst (λ (g : ℕ). IsLowest n d (n / g) (d / g)) (sym (gcd_is n d r.0 some r.1)) (lowest_by n d r.0 some r.1)
 
 -- ---- equal fractions have one text
@@ -86,7 +82,7 @@ scaled_gcd : (fuel k n d : ℕ) → 0 < k → d ≤ fuel → (g : ℕ) → IsGcd
 scaled_gcd fuel k n zero some le g h = subst (λ (m : ℕ). IsGcd (k * n) (k * zero) (k * m)) (same_from_IsGcd n zero n g (IsGcd-from_zero n zero refl) h) (IsGcd-from_zero (k * n) (k * zero) (omega arith))
 scaled_gcd zero k n (suc d) some le g h = absurd (omega arith)
 scaled_gcd (suc fuel) k n (suc d) some le g h =
-    let r = some_gcd d (suc d) (n % suc d) (omega arith) in
+    let r = some_gcd (suc d) (n % suc d) in
     let same : r.0 ≡ g = same_from_IsGcd n (suc d) r.0 g (IsGcd-from_mod n (suc d) r.0 r.1) h in
     let less : n % suc d ≤ fuel = omega arith in
     let step = scaled_gcd fuel k (suc d) (n % suc d) some less r.0 r.1 in
@@ -103,8 +99,8 @@ left_over p q p' q' g h sg sh sq e f =
 -- two fractions with one value are one fraction in lowest terms
 pub one_value : (n d m e : ℕ) → 0 < d → 0 < e → n * e ≡ m * d → (n / gcd n d ≡ m / gcd m e) × (d / gcd n d ≡ e / gcd m e)
 one_value n d m e pd pe same =
-    let r = some_gcd d n d (omega arith) in
-    let s = some_gcd e m e (omega arith) in
+    let r = some_gcd n d in
+    let s = some_gcd m e in
     let pr = positive n d r.0 pd r.1 in
     let ps = positive m e s.0 pe s.1 in
     let left : IsGcd (e * n) (e * d) (e * r.0) = scaled_gcd d e n d pe (omega arith) r.0 r.1 in
