@@ -1,9 +1,10 @@
 -- The text of an affine map says the map's numbers.
-use Rattle.std.proofs.Common.{◌≡◌, ℕ, zero, suc, ◌<◌, ◌≤◌, ◌*◌, ◌^◌, Bool, true, false, cond, eqb, List, [], ◌∷◌, ◌++◌, length, append_assoc, decimal, refl, sym, ap, subst, ◌∙◌, arith, ℤ, pos, negsuc, unsigned_abs}
+use Rattle.std.proofs.Common.{◌≡◌, ℕ, zero, suc, ◌<◌, ◌≤◌, ◌*◌, ◌/◌, ◌^◌, lt_of_le_of_lt, Bool, true, false, cond, eqb, List, [], ◌∷◌, ◌++◌, length, append_assoc, decimal, refl, sym, ap, subst, ◌∙◌, arith, ℤ, pos, negsuc, unsigned_abs}
 use Rattle.std.proofs.lemmas.List.{append-nil}
 use Rattle.std.proofs.lemmas.Int.{ints}
 use Rattle.std.proofs.lemmas.Bool.Decides.{nat_tests}
-use Rattle.std.proofs.lemmas.Fmt.{digits_decimal, digits_value-decimal, decimal_is_IsNumeral}
+use Rattle.std.proofs.lemmas.Fmt.{decimal_is_IsNumeral_wide}
+use Rattle.std.proofs.Math.Nat.{div-le_self}
 use borrow.Author.Tests.{eqb-true}
 use Rattle.exact_ops.specs.Operator.{Operator, AreWithin}
 use Rattle.exact_ops.specs.declared.TheConstants.{UNIT}
@@ -21,7 +22,7 @@ use Rattle.triplet_text.proofs.LowestTerms.{IsLowest, is_lowest}
 use Rattle.triplet_text.proofs.Values.{own}
 use Rattle.triplet_text.proofs.Texts.{Lacks}
 use Rattle.triplet_text.proofs.SumTexts.{same_component, added_nothing, nothing_added, added_assoc}
-use Rattle.triplet_text.proofs.AffineBytes.{quotient_below, IsSizeText, multiple_of, fraction_of_parts, multiple_is_size, fraction_is_size}
+use Rattle.triplet_text.proofs.AffineBytes.{IsSizeText, multiple_of, fraction_of_parts, multiple_is_size, fraction_is_size}
 use Rattle.triplet_text.proofs.AffineUnique.{one_map_of_text}
 
 -- ---- numbers
@@ -29,13 +30,13 @@ use Rattle.triplet_text.proofs.AffineUnique.{one_map_of_text}
 above_one : (q : ℕ) → 0 < q → eqb q 1 ≡ false → 1 < q
 above_one q some e = grind (arith, nat_tests)
 
-decimal_digits : (p : ℕ) → p < 2 ^ 64 → AreDigits (decimal p)
-decimal_digits p h = record { some = (decimal_is_IsNumeral p h).0.0; digits = digits_decimal own p h }
+decimal_digits : (p : ℕ) → p < 10 ^ 64 → AreDigits (decimal p)
+decimal_digits p h = let n = decimal_is_IsNumeral_wide p h in record { some = n.0.0; digits = own.from (decimal p) n.0.1 }
 
-decimal_value : (p : ℕ) → p < 2 ^ 64 → value_of (decimal p) ≡ p
-decimal_value p h = digits_value-decimal own p h
+decimal_value : (p : ℕ) → p < 10 ^ 64 → value_of (decimal p) ≡ p
+decimal_value p h = let n = decimal_is_IsNumeral_wide p h in own.same (decimal p) n.0.1 ∙ n.1
 
-quotient_value : (n d p q : ℕ) → p < 2 ^ 64 → q < 2 ^ 64 → IsLowest n d p q → HasValue n d (quotient_text p q)
+quotient_value : (n d p q : ℕ) → p < 10 ^ 64 → q < 10 ^ 64 → IsLowest n d p q → HasValue n d (quotient_text p q)
 quotient_value n d p q hp hq h = by (eqb q 1) refl
   where
     vp : value_of (decimal p) ≡ p
@@ -48,18 +49,24 @@ quotient_value n d p q hp hq h = by (eqb q 1) refl
     by true e = whole (decimal_digits p hp) (rw vp (omega (arith, h.same, ap (λ (k : ℕ). n * k) (eqb-true q 1 e))))
     by false e = fraction (decimal_digits p hp) (decimal_digits q hq) (rw vq (above_one q h.positive e)) (rw (vp, vq) h.coprime) (rw (vp, vq) h.same)
 
-fraction_value : (n d : ℕ) → 0 < d → n < 2 ^ 64 → d < 2 ^ 64 → HasValue n d (fraction_text n d)
-fraction_value n d some hn hd = quotient_value n d _ _ (quotient_below n (gcd n d) hn) (quotient_below d (gcd n d) hd) (is_lowest n d some)
+below : (n g k : ℕ) → n < k → n / g < k
+below n g k h = lt_of_le_of_lt (div-le_self n g) h
+
+pub fraction_value : (n d : ℕ) → 0 < d → n < 10 ^ 64 → d < 10 ^ 64 → HasValue n d (fraction_text n d)
+fraction_value n d some hn hd = quotient_value n d _ _ (below n (gcd n d) (10 ^ 64) hn) (below d (gcd n d) (10 ^ 64) hd) (is_lowest n d some)
+
+machine_value : (n d : ℕ) → 0 < d → n < 2 ^ 64 → d < 2 ^ 64 → HasValue n d (fraction_text n d)
+machine_value n d some hn hd = fraction_value n d some (omega arith) (omega arith)
 
 multiple_value : (d byte n : ℕ) → 0 < d → d < 2 ^ 64 → n < 2 ^ 64 → is_letter byte ≡ true → IsAffineTerm d (multiple_of d byte n) (times n byte)
 multiple_value d byte n some hd hn h = by (eqb n d) refl
   where
     by : (b : Bool) → eqb n d ≡ b → IsAffineTerm d (cond b (byte ∷ []) (fraction_text n d ++ star ∷ byte ∷ [])) (times n byte)
     by true e = subst (λ (k : ℕ). IsAffineTerm d (byte ∷ []) (times k byte)) (sym (eqb-true n d e)) (letter byte h)
-    by false e = multiple byte (fraction_value n d some hn hd) h
+    by false e = multiple byte (machine_value n d some hn hd) h
 
 constant_value : (d n : ℕ) → 0 < d → UNIT * d < 2 ^ 64 → n < 2 ^ 64 → IsAffineTerm d (fraction_of_parts d n) (translation n)
-constant_value d n some hd hn = constant (fraction_value n (UNIT * d) (omega arith) hn hd)
+constant_value d n some hd hn = constant (machine_value n (UNIT * d) (omega arith) hn hd)
 
 -- ---- one more term
 

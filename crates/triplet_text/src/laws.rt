@@ -1,10 +1,10 @@
-ghost use Rattle.std.specs.Prelude.{◌≡◌, ◌<◌, List, ℕ, ℤ, pos, ◌<ℤ◌, ◌*ℤ◌};
+ghost use Rattle.std.specs.Prelude.{◌≡◌, ◌<◌, ◌^◌, List, ℕ, ℤ, pos, ◌<ℤ◌, ◌*ℤ◌};
 ghost use Rattle.exact_ops.specs.Operator.{Operator};
 ghost use Rattle.triplet_text.specs.Grammar.{IsTriplet};
 ghost use Rattle.triplet_text.specs.Coordinates.{IsCoordinate};
-ghost use Rattle.triplet_text.specs.Fractions.{frac_text};
+ghost use Rattle.triplet_text.specs.Fractions.{fraction_text, frac_text};
 ghost use Rattle.triplet_text.specs.Printing.{affine_text, IsPrintable, IsSameMap};
-ghost use Rattle.triplet_text.specs.AffineTexts.{IsAffineText};
+ghost use Rattle.triplet_text.specs.AffineTexts.{HasValue, IsAffineText};
 
 /// A line is a triplet of one operator at most.
 pub fn triplet_is_unique()
@@ -14,6 +14,12 @@ pub fn triplet_is_unique()
 /// A text is a coordinate with one numerator and one denominator at most.
 pub fn coordinate_is_unique()
     ensures { (text : List ℕ) (n d m e : ℤ) → IsCoordinate text n d → IsCoordinate text m e → (n ≡ m) × (d ≡ e) }
+{}
+
+/// The text of a fraction has its value: a whole number, or two numbers in lowest terms. Every fraction in the machine is in
+/// this range.
+pub fn fraction_text_has_value()
+    ensures { (n d : ℕ) → 0 < d → n < 10 ^ 64 → d < 10 ^ 64 → HasValue n d (fraction_text n d) }
 {}
 
 /// Fractions with one value have one text.
