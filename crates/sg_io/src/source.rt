@@ -62,7 +62,6 @@ fn fill<S: Source>(src: &mut S, buf: &mut [u8]) -> Result<usize, Failed>
 
 /// Reads all that is left, where it is at most `limit` bytes. Room for one byte more is taken before the first read.
 pub fn read_all<S: Source>(alloc: Global, src: &mut S, limit: u32) -> Result<Vec<u8>, ReadStop>
-    requires { limit ≤ 1048576 }
     ensures bytes { IfOk result (λ all. Consumes (S.left src.old) (S.left src.new) all.items) }
     ensures end { OnOk result (IsAtEnd (S.left src.new)) }
     ensures within { IfOk result (λ all. length all.items ≤ limit) }

@@ -5,7 +5,7 @@ use Rattle.std.proofs.lemmas.Fmt.{digits_decimal, decimal_is_IsNumeral}
 use Rattle.std.proofs.lemmas.Bool.Decides.{nat_tests}
 use Rattle.std.proofs.Math.Nat.{div-le_self}
 use Rattle.exact_ops.specs.declared.TheConstants.{UNIT}
-use Rattle.triplet_text.specs.Bytes.{is_digit, is_sign, comma, star, stroke}
+use Rattle.triplet_text.specs.Bytes.{is_digit, is_sign, comma, star, slash}
 use Rattle.triplet_text.specs.Tokens.{Each}
 use Rattle.triplet_text.specs.Fractions.{gcd, quotient_text, fraction_text}
 use Rattle.triplet_text.specs.Printing.{multiple_text}
@@ -15,7 +15,7 @@ use Rattle.triplet_text.proofs.Texts.{Lacks, all_joined, all_mapped}
 -- ---- the bytes of fractions
 
 abbrev pub is_in_fraction : ℕ → Bool
-is_in_fraction byte = is_digit byte || eqb byte stroke
+is_in_fraction byte = is_digit byte || eqb byte slash
 
 pub digit_in_fraction : (byte : ℕ) → is_digit byte ≡ true → is_in_fraction byte ≡ true
 digit_in_fraction byte h = rw h refl
@@ -41,9 +41,9 @@ quotient_bytes p q hp hq = by (eqb q 1)
     front : Each is_in_fraction (decimal p)
     front = all_mapped _ _ digit_in_fraction (decimal p) (decimal_bytes p hp)
 
-    by : (b : Bool) → (0 < length (cond b (decimal p) (decimal p ++ stroke ∷ decimal q))) × Each is_in_fraction (cond b (decimal p) (decimal p ++ stroke ∷ decimal q))
+    by : (b : Bool) → (0 < length (cond b (decimal p) (decimal p ++ slash ∷ decimal q))) × Each is_in_fraction (cond b (decimal p) (decimal p ++ slash ∷ decimal q))
     by true = (some, front)
-    by false = (omega (arith, some, length-append (decimal p) (stroke ∷ decimal q)), all_joined _ (decimal p) (stroke ∷ decimal q) front (refl, all_mapped _ _ digit_in_fraction (decimal q) (decimal_bytes q hq)))
+    by false = (omega (arith, some, length-append (decimal p) (slash ∷ decimal q)), all_joined _ (decimal p) (slash ∷ decimal q) front (refl, all_mapped _ _ digit_in_fraction (decimal q) (decimal_bytes q hq)))
 
 pub quotient_below : (n g : ℕ) → n < 2 ^ 64 → n / g < 2 ^ 64
 quotient_below n g h = lt_of_le_of_lt (div-le_self n g) h

@@ -10,7 +10,7 @@ use Rattle.exact_ops.specs.Matrix.{scaled, times as times_column}
 use Rattle.exact_ops.specs.Operator.{Operator}
 use Rattle.exact_ops.specs.declared.TheConstants.{UNIT}
 use Rattle.triplet_text.specs.declared.component.Component.{Component}
-use Rattle.triplet_text.specs.Bytes.{is_sign, is_x, is_y, is_z, comma, star, stroke, plus_sign, minus_sign}
+use Rattle.triplet_text.specs.Bytes.{is_sign, is_x, is_y, is_z, comma, star, slash, plus_sign, minus_sign}
 use Rattle.triplet_text.specs.Pieces.{cut}
 use Rattle.triplet_text.specs.Tokens.{Each, is_letter}
 use Rattle.triplet_text.specs.Components.{behind}
@@ -31,16 +31,16 @@ fraction_digits {run = run} h = all_mapped _ _ digit_in_fraction run h.digits
 
 value_bytes : {n d : ℕ} {text : List ℕ} → HasValue n d text → (0 < length text) × Each is_in_fraction text
 value_bytes (whole h v) = (h.some, fraction_digits h)
-value_bytes (fraction {p = p} {q = q} hp hq one low v) = (omega (arith, hp.some, length-append p (stroke ∷ q)), all_joined _ p (stroke ∷ q) (fraction_digits hp) (refl, fraction_digits hq))
+value_bytes (fraction {p = p} {q = q} hp hq one low v) = (omega (arith, hp.some, length-append p (slash ∷ q)), all_joined _ p (slash ∷ q) (fraction_digits hp) (refl, fraction_digits hq))
 
 abbrev at_stroke : List ℕ → Option (List ℕ × List ℕ)
-at_stroke text = cut (λ b. eqb b stroke) text
+at_stroke text = cut (λ b. eqb b slash) text
 
-stroke_there : (p q : List ℕ) → AreDigits p → at_stroke (p ++ stroke ∷ q) ≡ Some (p, q)
-stroke_there p q h = cut_first (λ b. eqb b stroke) p stroke q (all_mapped _ _ digit_no_stroke p h.digits) refl
+stroke_there : (p q : List ℕ) → AreDigits p → at_stroke (p ++ slash ∷ q) ≡ Some (p, q)
+stroke_there p q h = cut_first (λ b. eqb b slash) p slash q (all_mapped _ _ digit_no_stroke p h.digits) refl
 
 stroke_nowhere : (p : List ℕ) → AreDigits p → at_stroke p ≡ None
-stroke_nowhere p h = cut_nowhere (λ b. eqb b stroke) p (all_mapped _ _ digit_no_stroke p h.digits)
+stroke_nowhere p h = cut_nowhere (λ b. eqb b slash) p (all_mapped _ _ digit_no_stroke p h.digits)
 
 cross_back : (n d m e p q r s : ℕ) → p * d ≡ n * q → r * e ≡ m * s → 0 < q → p ≡ r → q ≡ s → n * e ≡ m * d
 cross_back n d m e p q r s one two some same other =

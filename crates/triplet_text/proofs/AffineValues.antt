@@ -10,7 +10,7 @@ use Rattle.exact_ops.specs.Operator.{Operator, AreWithin}
 use Rattle.exact_ops.specs.declared.TheConstants.{UNIT}
 use Rattle.triplet_text.specs.declared.printing.TheConstants.{OVER_LIMIT, PARTS_LIMIT}
 use Rattle.triplet_text.specs.declared.component.Component.{Component}
-use Rattle.triplet_text.specs.Bytes.{is_sign, comma, star, stroke, plus_sign, minus_sign, zero_digit}
+use Rattle.triplet_text.specs.Bytes.{is_sign, comma, star, slash, plus_sign, minus_sign, zero_digit}
 use Rattle.triplet_text.specs.Tokens.{is_letter}
 use Rattle.triplet_text.specs.Components.{behind}
 use Rattle.triplet_text.specs.Grammar.{value_of, times, translation, negated, added, nothing}
@@ -45,7 +45,7 @@ quotient_value n d p q hp hq h = by (eqb q 1) refl
     vq : value_of (decimal q) ≡ q
     vq = decimal_value q hq
 
-    by : (b : Bool) → eqb q 1 ≡ b → HasValue n d (cond b (decimal p) (decimal p ++ stroke ∷ decimal q))
+    by : (b : Bool) → eqb q 1 ≡ b → HasValue n d (cond b (decimal p) (decimal p ++ slash ∷ decimal q))
     by true e = whole (decimal_digits p hp) (rw vp (omega (arith, h.same, ap (λ (k : ℕ). n * k) (eqb-true q 1 e))))
     by false e = fraction (decimal_digits p hp) (decimal_digits q hq) (rw vq (above_one q h.positive e)) (rw (vp, vq) h.coprime) (rw (vp, vq) h.same)
 

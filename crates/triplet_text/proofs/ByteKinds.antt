@@ -2,7 +2,7 @@
 use Rattle.std.proofs.Common.{◌≡◌, ℕ, true, false, not, eqb, ◌||◌, arith}
 use Rattle.std.specs.Prelude.{Bool}
 use Rattle.std.proofs.lemmas.Bool.Decides.{nat_tests}
-use Rattle.triplet_text.specs.Bytes.{is_sign, is_digit, is_quote, is_blank, comma, star, stroke, point, is_x, is_y, is_z}
+use Rattle.triplet_text.specs.Bytes.{is_sign, is_digit, is_quote, is_blank, comma, star, slash, point, is_x, is_y, is_z}
 use Rattle.triplet_text.specs.Tokens.{is_mark, is_letter, is_in_number}
 
 abbrev pub is_no_comma : ℕ → Bool
@@ -69,7 +69,7 @@ digit_in_number byte h = grind (arith, nat_tests)
 pub digit_no_star : (byte : ℕ) → is_digit byte ≡ true → eqb byte star ≡ false
 digit_no_star byte h = grind (arith, nat_tests)
 
-pub digit_no_stroke : (byte : ℕ) → is_digit byte ≡ true → eqb byte stroke ≡ false
+pub digit_no_stroke : (byte : ℕ) → is_digit byte ≡ true → eqb byte slash ≡ false
 digit_no_stroke byte h = grind (arith, nat_tests)
 
 pub digit_no_point : (byte : ℕ) → is_digit byte ≡ true → eqb byte point ≡ false
@@ -78,13 +78,13 @@ digit_no_point byte h = grind (arith, nat_tests)
 pub number_no_star : (byte : ℕ) → is_in_number byte ≡ true → eqb byte star ≡ false
 number_no_star byte h = grind (arith, nat_tests)
 
-pub number_no_stroke : (byte : ℕ) → is_in_number byte ≡ true → eqb byte stroke ≡ false
+pub number_no_stroke : (byte : ℕ) → is_in_number byte ≡ true → eqb byte slash ≡ false
 number_no_stroke byte h = grind (arith, nat_tests)
 
 pub letter_no_star : (byte : ℕ) → is_letter byte ≡ true → eqb byte star ≡ false
 letter_no_star byte h = grind (arith, nat_tests)
 
-pub letter_no_stroke : (byte : ℕ) → is_letter byte ≡ true → eqb byte stroke ≡ false
+pub letter_no_stroke : (byte : ℕ) → is_letter byte ≡ true → eqb byte slash ≡ false
 letter_no_stroke byte h = grind (arith, nat_tests)
 
 pub letter_no_point : (byte : ℕ) → is_letter byte ≡ true → eqb byte point ≡ false
@@ -96,7 +96,7 @@ letter_no_digit byte h = grind (arith, nat_tests)
 pub blank_no_star : (byte : ℕ) → is_blank byte ≡ true → eqb byte star ≡ false
 blank_no_star byte h = grind (arith, nat_tests)
 
-pub blank_no_stroke : (byte : ℕ) → is_blank byte ≡ true → eqb byte stroke ≡ false
+pub blank_no_stroke : (byte : ℕ) → is_blank byte ≡ true → eqb byte slash ≡ false
 blank_no_stroke byte h = grind (arith, nat_tests)
 
 -- ---- letters

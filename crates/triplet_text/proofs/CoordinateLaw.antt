@@ -9,7 +9,7 @@ use Rattle.std.proofs.lemmas.Int.{ints, to_z-of_z}
 use borrow.Author.Tests.{ltb-true, leb-true, eqb-true}
 use Rattle.triplet_text.specs.declared.coordinate.TheConstants.{COORDINATE_LENGTH, DECIMALS_LIMIT}
 use Rattle.exact_ops.specs.declared.TheConstants.{MAX_COORDINATE, MAX_DENOMINATOR}
-use Rattle.triplet_text.specs.Bytes.{stroke, point, plus_sign, minus_sign}
+use Rattle.triplet_text.specs.Bytes.{slash, point, plus_sign, minus_sign}
 use Rattle.triplet_text.specs.Components.{Within}
 use Rattle.triplet_text.specs.Digits.{with_digits}
 use Rattle.triplet_text.specs.Grammar.{value_of}
@@ -52,14 +52,14 @@ ratio_from n d c e =
 
 -- ---- sizes
 
-with_stroke : (text front back : List ℕ) → cut (λ b. eqb b stroke) text ≡ Some (front, back) → size_of text ≡ option_and_then (λ n. option_and_then (λ d. ratio_of n d) (number_of back)) (number_of front)
+with_stroke : (text front back : List ℕ) → cut (λ b. eqb b slash) text ≡ Some (front, back) → size_of text ≡ option_and_then (λ n. option_and_then (λ d. ratio_of n d) (number_of back)) (number_of front)
 with_stroke text front back e = rw e refl
 
-with_point : (text front back : List ℕ) → Lacks (λ b. eqb b stroke) text → cut (λ b. eqb b point) text ≡ Some (front, back) → size_of text ≡ decimal_size_of front back
-with_point text front back h e = rw (cut_nowhere (λ b. eqb b stroke) text h, e) refl
+with_point : (text front back : List ℕ) → Lacks (λ b. eqb b slash) text → cut (λ b. eqb b point) text ≡ Some (front, back) → size_of text ≡ decimal_size_of front back
+with_point text front back h e = rw (cut_nowhere (λ b. eqb b slash) text h, e) refl
 
-with_neither : (text : List ℕ) → Lacks (λ b. eqb b stroke) text → Lacks (λ b. eqb b point) text → size_of text ≡ option_and_then (λ n. ratio_of n 1) (number_of text)
-with_neither text h g = rw (cut_nowhere (λ b. eqb b stroke) text h, cut_nowhere (λ b. eqb b point) text g) refl
+with_neither : (text : List ℕ) → Lacks (λ b. eqb b slash) text → Lacks (λ b. eqb b point) text → size_of text ≡ option_and_then (λ n. ratio_of n 1) (number_of text)
+with_neither text h g = rw (cut_nowhere (λ b. eqb b slash) text h, cut_nowhere (λ b. eqb b point) text g) refl
 
 decimal_to : (front back : List ℕ) → AreDigits (front ++ back) → length back ≤ DECIMALS_LIMIT → decimal_size_of front back ≡ ratio_of (value_of (front ++ back)) (10 ^ length back)
 decimal_to front back h few =
@@ -75,7 +75,7 @@ size_to : {text : List ℕ} {n d : ℕ} → IsSize text n d → AreInRange n d �
 size_to (whole {run = run} w) r =
     with_neither run (all_mapped _ _ digit_no_stroke run w.digits) (all_mapped _ _ digit_no_point run w.digits) ∙ rw (number_to run w) (ratio_to (value_of run) 1 r)
 size_to (fraction {over = over} {under = under} v w) r =
-    with_stroke (over ++ stroke ∷ under) over under (cut_first (λ b. eqb b stroke) over stroke under (all_mapped _ _ digit_no_stroke over v.digits) refl)
+    with_stroke (over ++ slash ∷ under) over under (cut_first (λ b. eqb b slash) over slash under (all_mapped _ _ digit_no_stroke over v.digits) refl)
     ∙ rw (number_to over v, number_to under w) (ratio_to (value_of over) (value_of under) r)
 size_to (decimal front back w few) r =
     let ds = all_front _ front back w.digits in
@@ -104,10 +104,10 @@ size_by_value : (text : List ℕ) {n m d e : ℕ} → n ≡ m → d ≡ e → Is
 size_by_value text {n} {m} {d} {e} p q h = subst (λ (k : ℕ). IsSize text k e) p (subst (IsSize text n) q h)
 
 module _ (text : List ℕ) (c : ℤ × ℤ) (e : size_of text ≡ Some c) where
-  stroke_from : HasFirst (λ b. eqb b stroke) text → IsFound text c
+  stroke_from : HasFirst (λ b. eqb b slash) text → IsFound text c
   stroke_from f =
-      let is = eqb-true f.byte stroke f.passed in
-      let found = sym (with_stroke text f.front f.back (ap (cut (λ b. eqb b stroke)) f.cut ∙ cut_first (λ b. eqb b stroke) f.front f.byte f.back f.lacks f.passed)) ∙ e in
+      let is = eqb-true f.byte slash f.passed in
+      let found = sym (with_stroke text f.front f.back (ap (cut (λ b. eqb b slash)) f.cut ∙ cut_first (λ b. eqb b slash) f.front f.byte f.back f.lacks f.passed)) ∙ e in
       let over = then_some (number_of f.front) (λ n. option_and_then (λ d. ratio_of n d) (number_of f.back)) c found in
       let under = then_some (number_of f.back) (λ d. ratio_of over.0 d) c over.2 in
       let v = number_from f.front over.0 over.1 in
@@ -116,7 +116,7 @@ module _ (text : List ℕ) (c : ℤ × ℤ) (e : size_of text ≡ Some c) where
       let size : IsSize text (value_of f.front) (value_of f.back) = subst (λ (t : List ℕ). IsSize t (value_of f.front) (value_of f.back)) (sym (f.cut ∙ ap (λ (b : ℕ). f.front ++ b ∷ f.back) is)) (fraction v.0 w.0) in
       record { n = over.0; d = under.0; size = size_by_value text v.1 w.1 size; in_range = r.0; value = r.1 }
 
-  point_from : Lacks (λ b. eqb b stroke) text → HasFirst (λ b. eqb b point) text → IsFound text c
+  point_from : Lacks (λ b. eqb b slash) text → HasFirst (λ b. eqb b point) text → IsFound text c
   point_from no_stroke f =
       let is = eqb-true f.byte point f.passed in
       let found = sym (with_point text f.front f.back no_stroke (ap (cut (λ b. eqb b point)) f.cut ∙ cut_first (λ b. eqb b point) f.front f.byte f.back f.lacks f.passed)) ∙ e in
@@ -125,7 +125,7 @@ module _ (text : List ℕ) (c : ℤ × ℤ) (e : size_of text ≡ Some c) where
       let size = subst (λ (t : List ℕ). IsSize t (value_of (f.front ++ f.back)) (10 ^ length f.back)) (sym (f.cut ∙ ap (λ (b : ℕ). f.front ++ b ∷ f.back) is)) (decimal f.front f.back w.0 w.1) in
       record { n = value_of (f.front ++ f.back); d = 10 ^ length f.back; size = size; in_range = r.0; value = r.1 }
 
-  whole_from : Lacks (λ b. eqb b stroke) text → Lacks (λ b. eqb b point) text → IsFound text c
+  whole_from : Lacks (λ b. eqb b slash) text → Lacks (λ b. eqb b point) text → IsFound text c
   whole_from no_stroke no_point =
       let over = then_some (number_of text) (λ n. ratio_of n 1) c (sym (with_neither text no_stroke no_point) ∙ e) in
       let v = number_from text over.0 over.1 in
@@ -134,7 +134,7 @@ module _ (text : List ℕ) (c : ℤ × ℤ) (e : size_of text ≡ Some c) where
 
   size_from : IsFound text c
   size_from =
-      elim (first_or_none (λ b. eqb b stroke) text) [
+      elim (first_or_none (λ b. eqb b slash) text) [
         | inl f ↦ stroke_from f
         | inr no_stroke ↦ elim (first_or_none (λ b. eqb b point) text) [
           | inl f ↦ point_from no_stroke f
@@ -158,7 +158,7 @@ digits_begin (byte ∷ run) more h = record { byte = byte; more = run ++ more; c
 size_begins : {text : List ℕ} {n d : ℕ} → IsSize text n d → BeginsNumber text
 size_begins (whole {run = []} w) = absurd (omega (arith, w.some))
 size_begins (whole {run = byte ∷ run} w) = record { byte = byte; more = run; cut = refl; begins = digit_in_number byte w.digits.0 }
-size_begins (fraction {over = over} {under = under} v w) = digits_begin over (stroke ∷ under) v
+size_begins (fraction {over = over} {under = under} v w) = digits_begin over (slash ∷ under) v
 size_begins (decimal [] back w few) = record { byte = point; more = back; cut = refl; begins = refl }
 size_begins (decimal (byte ∷ front) back w few) = record { byte = byte; more = front ++ point ∷ back; cut = refl; begins = digit_in_number byte w.digits.0 }
 

@@ -8,7 +8,7 @@ use Rattle.std.proofs.lemmas.Nat.Gcd.{IsGcd-from_zero, IsGcd-from_mod, same_from
 use Rattle.std.proofs.lemmas.Int.{ints, unsigned_abs-mul}
 use lib.Arith.{mod-mul}
 use Rattle.lattice_algebra.proofs.Numbers.{some_gcd}
-use Rattle.triplet_text.specs.Bytes.{stroke, minus_sign}
+use Rattle.triplet_text.specs.Bytes.{slash, minus_sign}
 use Rattle.triplet_text.specs.Fractions.{common_divisor_up_to, gcd, quotient_text, fraction_text, frac_text}
 
 pub positive : (n d g : ℕ) → 0 < d → IsGcd n d g → 0 < g
@@ -146,9 +146,9 @@ decimal_short k n some h = length-decimal-le_wide k n some h.0 (omega (arith, h.
 quotient_short : (k l p q : ℕ) → 0 < k → 0 < l → HasDigits k p → HasDigits l q → length (quotient_text p q) ≤ k + 1 + l
 quotient_short k l p q pk pl hp hq = by (eqb q 1)
   where
-    by : (b : Bool) → length (cond b (decimal p) (decimal p ++ stroke ∷ decimal q)) ≤ k + 1 + l
+    by : (b : Bool) → length (cond b (decimal p) (decimal p ++ slash ∷ decimal q)) ≤ k + 1 + l
     by true = omega (arith, decimal_short k p pk hp)
-    by false = omega (arith, decimal_short k p pk hp, decimal_short l q pl hq, length-append (decimal p) (stroke ∷ decimal q))
+    by false = omega (arith, decimal_short k p pk hp, decimal_short l q pl hq, length-append (decimal p) (slash ∷ decimal q))
 
 quotient_below : (k a g : ℕ) → HasDigits k a → HasDigits k (a / g)
 quotient_below k a g h = (lt_of_le_of_lt (div-le_self a g) h.0, lt_of_le_of_lt (div-le_self a g) h.1)

@@ -4,7 +4,7 @@ use Rattle.std.specs.Option.{option_map}
 use borrow.Author.Tests.{eqb-true}
 use Rattle.exact_ops.specs.declared.TheConstants.{UNIT}
 use Rattle.triplet_text.specs.declared.component.Component.{Component}
-use Rattle.triplet_text.specs.Bytes.{is_digit, is_blank, is_x, is_y, is_z, star, stroke, point, zero_digit}
+use Rattle.triplet_text.specs.Bytes.{is_digit, is_blank, is_x, is_y, is_z, star, slash, point, zero_digit}
 use Rattle.triplet_text.specs.Pieces.{trim, trim_start, trim_end, cut}
 use Rattle.triplet_text.specs.Components.{times_letter, of_parts}
 use Rattle.triplet_text.specs.Terms.{product_of, cells_of, fraction_of, plain_of, term_of}
@@ -41,14 +41,14 @@ times_from n byte v h = by (is_x byte) (is_y byte) (is_z byte) refl refl refl
 with_star : (text front back : List ℕ) → cut (λ b. eqb b star) text ≡ Some (front, back) → term_of text ≡ product_of (trim_end front) (trim_start back)
 with_star text front back e = rw e refl
 
-with_stroke : (text front back : List ℕ) → Lacks (λ b. eqb b star) text → cut (λ b. eqb b stroke) text ≡ Some (front, back) → term_of text ≡ option_map of_parts (fraction_of (trim_end front) (trim_start back))
+with_stroke : (text front back : List ℕ) → Lacks (λ b. eqb b star) text → cut (λ b. eqb b slash) text ≡ Some (front, back) → term_of text ≡ option_map of_parts (fraction_of (trim_end front) (trim_start back))
 with_stroke text front back h e = rw (cut_nowhere (λ b. eqb b star) text h, e) refl
 
-with_point : (text front back : List ℕ) → Lacks (λ b. eqb b star) text → Lacks (λ b. eqb b stroke) text → cut (λ b. eqb b point) text ≡ Some (front, back) → term_of text ≡ option_map of_parts (decimal_of front back)
-with_point text front back h g e = rw (cut_nowhere (λ b. eqb b star) text h, cut_nowhere (λ b. eqb b stroke) text g, e) refl
+with_point : (text front back : List ℕ) → Lacks (λ b. eqb b star) text → Lacks (λ b. eqb b slash) text → cut (λ b. eqb b point) text ≡ Some (front, back) → term_of text ≡ option_map of_parts (decimal_of front back)
+with_point text front back h g e = rw (cut_nowhere (λ b. eqb b star) text h, cut_nowhere (λ b. eqb b slash) text g, e) refl
 
-with_none : (text : List ℕ) → Lacks (λ b. eqb b star) text → Lacks (λ b. eqb b stroke) text → Lacks (λ b. eqb b point) text → term_of text ≡ plain_of text
-with_none text h g f = rw (cut_nowhere (λ b. eqb b star) text h, cut_nowhere (λ b. eqb b stroke) text g, cut_nowhere (λ b. eqb b point) text f) refl
+with_none : (text : List ℕ) → Lacks (λ b. eqb b star) text → Lacks (λ b. eqb b slash) text → Lacks (λ b. eqb b point) text → term_of text ≡ plain_of text
+with_none text h g f = rw (cut_nowhere (λ b. eqb b star) text h, cut_nowhere (λ b. eqb b slash) text g, cut_nowhere (λ b. eqb b point) text f) refl
 
 -- ---- from the term to what its text says
 
@@ -93,7 +93,7 @@ number_trimmed : (text run : List ℕ) → HasTokens text (Number run ∷ []) �
 number_trimmed text [] h = absurd (omega (arith, h.0.is_token.0))
 number_trimmed text (byte ∷ run) h = one_trimmed text h.0.blanks byte run h.0.rest h.0.cut h.0.blank h.1 (all_mapped _ _ number_solid (byte ∷ run) h.0.is_token.1)
 
-fraction_term : (over under : List ℕ) (parts : ℕ) (text : List ℕ) → IsFraction over under parts → HasTokens text (Number over ∷ Mark stroke ∷ Number under ∷ []) → term_of (trim text) ≡ Some (translation parts)
+fraction_term : (over under : List ℕ) (parts : ℕ) (text : List ℕ) → IsFraction over under parts → HasTokens text (Number over ∷ Mark slash ∷ Number under ∷ []) → term_of (trim text) ≡ Some (translation parts)
 fraction_term [] under parts text w h = absurd (omega (arith, h.0.is_token.0))
 fraction_term (f ∷ one) [] parts text w h = absurd (omega (arith, h.1.1.0.is_token.0))
 fraction_term (f ∷ one) (s ∷ two) parts text w h =
@@ -103,17 +103,17 @@ fraction_term (f ∷ one) (s ∷ two) parts text w h =
     let b3 = h.1.1.0.blanks in
     let in_over = h.0.is_token.1 in
     let in_under = h.1.1.0.is_token.1 in
-    let cut = h.0.cut ∙ ap (λ (r : List ℕ). h.0.blanks ++ f ∷ (one ++ r)) (h.1.0.cut ∙ ap (λ (r : List ℕ). b2 ++ stroke ∷ r) h.1.1.0.cut) in
+    let cut = h.0.cut ∙ ap (λ (r : List ℕ). h.0.blanks ++ f ∷ (one ++ r)) (h.1.0.cut ∙ ap (λ (r : List ℕ). b2 ++ slash ∷ r) h.1.1.0.cut) in
     let solid = all_mapped _ _ number_solid over in_over in
     let solid_under = all_mapped _ _ number_solid under in_under in
-    let t = two_trimmed text h.0.blanks f one b2 stroke b3 s two h.1.1.0.rest cut h.0.blank h.1.1.1 solid.0 solid_under in
+    let t = two_trimmed text h.0.blanks f one b2 slash b3 s two h.1.1.0.rest cut h.0.blank h.1.1.1 solid.0 solid_under in
     let front : Lacks (λ b. eqb b star) (over ++ b2) = all_joined _ over b2 (all_mapped _ _ number_no_star over in_over) (all_mapped _ _ blank_no_star b2 h.1.0.blank) in
     let back : Lacks (λ b. eqb b star) (b3 ++ under) = all_joined _ b3 under (all_mapped _ _ blank_no_star b3 h.1.1.0.blank) (all_mapped _ _ number_no_star under in_under) in
-    let no_star : Lacks (λ b. eqb b star) (with_mark f one b2 stroke b3 s two) = all_joined _ (over ++ b2) (stroke ∷ (b3 ++ under)) front (refl, back) in
-    let no_stroke : Lacks (λ b. eqb b stroke) (over ++ b2) = all_joined _ over b2 (all_mapped _ _ number_no_stroke over in_over) (all_mapped _ _ blank_no_stroke b2 h.1.0.blank) in
+    let no_star : Lacks (λ b. eqb b star) (with_mark f one b2 slash b3 s two) = all_joined _ (over ++ b2) (slash ∷ (b3 ++ under)) front (refl, back) in
+    let no_stroke : Lacks (λ b. eqb b slash) (over ++ b2) = all_joined _ over b2 (all_mapped _ _ number_no_stroke over in_over) (all_mapped _ _ blank_no_stroke b2 h.1.0.blank) in
     let a = trim_end_is over b2 h.1.0.blank (solid_kept over solid) in
     let b = trim_start_is b3 s two h.1.1.0.blank solid_under.0 in
-    ap term_of t ∙ with_stroke (with_mark f one b2 stroke b3 s two) (over ++ b2) (b3 ++ under) no_star (cut_first (λ b. eqb b stroke) (over ++ b2) stroke (b3 ++ under) no_stroke refl)
+    ap term_of t ∙ with_stroke (with_mark f one b2 slash b3 s two) (over ++ b2) (b3 ++ under) no_star (cut_first (λ b. eqb b slash) (over ++ b2) slash (b3 ++ under) no_stroke refl)
     ∙ (λ i. option_map of_parts (fraction_of (a i) (b i))) ∙ ap (option_map of_parts) (fraction_to over under parts w)
 
 pub term_to : {tokens : List Token} {c : Component} → IsTerm tokens c → (text : List ℕ) → HasTokens text tokens → term_of (trim text) ≡ Some c
@@ -225,24 +225,24 @@ module _ (text before trimmed after : List ℕ) (whole : text ≡ before ++ (tri
         is_term = subst (IsTerm (Number (p.digit ∷ []) ∷ Mark star ∷ Letter p.byte ∷ [])) p.value (digit_star_letter (one_digit p.digit p.is_digit));
       }
 
-  stroke_from : Lacks (λ b. eqb b star) trimmed → HasFirst (λ b. eqb b stroke) trimmed → term_of trimmed ≡ Some c → IsTermText text c
+  stroke_from : Lacks (λ b. eqb b star) trimmed → HasFirst (λ b. eqb b slash) trimmed → term_of trimmed ≡ Some c → IsTermText text c
   stroke_from no_star f e =
-      let is = eqb-true f.byte stroke f.passed in
+      let is = eqb-true f.byte slash f.passed in
       let over = trim_end f.front in
       let under = trim_start f.back in
-      let m = map_some (fraction_of over under) of_parts c (sym (with_stroke trimmed f.front f.back no_star (ap (cut (λ b. eqb b stroke)) f.cut ∙ cut_first (λ b. eqb b stroke) f.front f.byte f.back f.lacks f.passed)) ∙ e) in
+      let m = map_some (fraction_of over under) of_parts c (sym (with_stroke trimmed f.front f.back no_star (ap (cut (λ b. eqb b slash)) f.cut ∙ cut_first (λ b. eqb b slash) f.front f.byte f.back f.lacks f.passed)) ∙ e) in
       let p = fraction_from over under m.0 m.1 in
       let one = end_cut f.front in
       let two = start_cut f.back in
-      let cut : text ≡ before ++ (((over ++ one.0) ++ stroke ∷ (two.0 ++ under)) ++ after) = whole ∙ ap (λ (t : List ℕ). before ++ (t ++ after)) (f.cut ∙ (λ i. one.1 i ++ is i ∷ two.1 i)) in
+      let cut : text ≡ before ++ (((over ++ one.0) ++ slash ∷ (two.0 ++ under)) ++ after) = whole ∙ ap (λ (t : List ℕ). before ++ (t ++ after)) (f.cut ∙ (λ i. one.1 i ++ is i ∷ two.1 i)) in
       let u = under_is over under m.0 p in
       record {
-        tokens = Number over ∷ Mark stroke ∷ Number under ∷ [];
-        has_tokens = marked_tokens text before over one.0 stroke two.0 (Number under) after cut blank_before one.2 two.2 blank_after (p.whole.some, all_mapped _ _ digit_in_number over p.whole.digits) refl (u.0, all_mapped _ _ digit_in_number under u.1);
-        is_term = subst (IsTerm (Number over ∷ Mark stroke ∷ Number under ∷ [])) m.2 (fraction p);
+        tokens = Number over ∷ Mark slash ∷ Number under ∷ [];
+        has_tokens = marked_tokens text before over one.0 slash two.0 (Number under) after cut blank_before one.2 two.2 blank_after (p.whole.some, all_mapped _ _ digit_in_number over p.whole.digits) refl (u.0, all_mapped _ _ digit_in_number under u.1);
+        is_term = subst (IsTerm (Number over ∷ Mark slash ∷ Number under ∷ [])) m.2 (fraction p);
       }
 
-  point_from : Lacks (λ b. eqb b star) trimmed → Lacks (λ b. eqb b stroke) trimmed → HasFirst (λ b. eqb b point) trimmed → term_of trimmed ≡ Some c → IsTermText text c
+  point_from : Lacks (λ b. eqb b star) trimmed → Lacks (λ b. eqb b slash) trimmed → HasFirst (λ b. eqb b point) trimmed → term_of trimmed ≡ Some c → IsTermText text c
   point_from no_star no_stroke f e =
       let is = eqb-true f.byte point f.passed in
       let m = map_some (decimal_of f.front f.back) of_parts c (sym (with_point trimmed f.front f.back no_star no_stroke (ap (cut (λ b. eqb b point)) f.cut ∙ cut_first (λ b. eqb b point) f.front f.byte f.back f.lacks f.passed)) ∙ e) in
@@ -309,7 +309,7 @@ module _ (text before trimmed after : List ℕ) (whole : text ≡ before ++ (tri
   trimmed_from e =
       elim (first_or_none (λ b. eqb b star) trimmed) [
         | inl f ↦ star_from f e
-        | inr no_star ↦ elim (first_or_none (λ b. eqb b stroke) trimmed) [
+        | inr no_star ↦ elim (first_or_none (λ b. eqb b slash) trimmed) [
           | inl f ↦ stroke_from no_star f e
           | inr no_stroke ↦ elim (first_or_none (λ b. eqb b point) trimmed) [
             | inl f ↦ point_from no_star no_stroke f e

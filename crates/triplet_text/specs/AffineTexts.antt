@@ -4,7 +4,7 @@ use Rattle.std.specs.Int.{IsGcd}
 use Rattle.exact_ops.specs.Operator.{Operator}
 use Rattle.exact_ops.specs.declared.TheConstants.{UNIT}
 use Rattle.triplet_text.specs.declared.component.Component.{Component}
-use Rattle.triplet_text.specs.Bytes.{is_sign, comma, star, stroke, minus_sign}
+use Rattle.triplet_text.specs.Bytes.{is_sign, comma, star, slash, minus_sign}
 use Rattle.triplet_text.specs.Tokens.{is_letter}
 use Rattle.triplet_text.specs.Components.{behind}
 use Rattle.triplet_text.specs.Coordinates.{AreDigits}
@@ -13,7 +13,7 @@ use Rattle.triplet_text.specs.Grammar.{value_of, times, translation, added, noth
 -- the number n / d in digits: p, or p/q in lowest terms
 pub data HasValue (n d : ℕ) : List ℕ → Type 0 where
   whole : {p : List ℕ} → AreDigits p → value_of p * d ≡ n → HasValue n d p
-  fraction : {p q : List ℕ} → AreDigits p → AreDigits q → 1 < value_of q → IsGcd (value_of p) (value_of q) 1 → value_of p * d ≡ n * value_of q → HasValue n d (p ++ stroke ∷ q)
+  fraction : {p q : List ℕ} → AreDigits p → AreDigits q → 1 < value_of q → IsGcd (value_of p) (value_of q) 1 → value_of p * d ≡ n * value_of q → HasValue n d (p ++ slash ∷ q)
 
 -- a letter, which is d / d of it; n / d, a star and a letter; or a constant, n / (UNIT * d)
 pub data IsAffineTerm (d : ℕ) : List ℕ → Component → Type 0 where

@@ -3,7 +3,7 @@ use Rattle.std.specs.Prelude.{◌==◌, ◌&&◌, if◌then◌else◌, ◌<◌, 
 use Rattle.std.specs.Option.{option_map}
 use Rattle.triplet_text.specs.declared.coordinate.TheConstants.{COORDINATE_LENGTH, DECIMALS_LIMIT}
 use Rattle.exact_ops.specs.declared.TheConstants.{MAX_COORDINATE, MAX_DENOMINATOR}
-use Rattle.triplet_text.specs.Bytes.{is_digit, stroke, point, plus_sign, minus_sign}
+use Rattle.triplet_text.specs.Bytes.{is_digit, slash, point, plus_sign, minus_sign}
 use Rattle.triplet_text.specs.Components.{Within}
 use Rattle.triplet_text.specs.Digits.{with_digits}
 use Rattle.triplet_text.specs.Grammar.{value_of}
@@ -18,7 +18,7 @@ pub record AreDigits (run : List ℕ) : Type 0 where
 -- a coordinate without a sign: a whole number over 1; a whole number over another; or a decimal, all its digits as one number over 10 to the number of digits after the point
 pub data IsSize : List ℕ → ℕ → ℕ → Type 0 where
   whole : {run : List ℕ} → AreDigits run → IsSize run (value_of run) 1
-  fraction : {over under : List ℕ} → AreDigits over → AreDigits under → IsSize (over ++ stroke ∷ under) (value_of over) (value_of under)
+  fraction : {over under : List ℕ} → AreDigits over → AreDigits under → IsSize (over ++ slash ∷ under) (value_of over) (value_of under)
   decimal : (front back : List ℕ) → AreDigits (front ++ back) → length back ≤ DECIMALS_LIMIT → IsSize (front ++ point ∷ back) (value_of (front ++ back)) (10 ^ length back)
 
 -- with a sign before it or none: a minus negates the numerator
@@ -51,14 +51,14 @@ decimal_size_of front back =
     then option_and_then (λ n. option_and_then (λ m. ratio_of m (10 ^ length back)) (with_digits n back)) (with_digits 0 front)
     else None
 
--- by what the text has: a stroke, else a point, else none of them
+-- by what the text has: a slash, else a point, else none of them
 abbrev pub size_by : Option (List ℕ × List ℕ) → Option (List ℕ × List ℕ) → List ℕ → Option (ℤ × ℤ)
 size_by (Some cut) other text = option_and_then (λ n. option_and_then (λ d. ratio_of n d) (number_of cut.1)) (number_of cut.0)
 size_by None (Some cut) text = decimal_size_of cut.0 cut.1
 size_by None None text = option_and_then (λ n. ratio_of n 1) (number_of text)
 
 abbrev pub size_of : List ℕ → Option (ℤ × ℤ)
-size_of text = size_by (cut (λ b. b == stroke) text) (cut (λ b. b == point) text) text
+size_of text = size_by (cut (λ b. b == slash) text) (cut (λ b. b == point) text) text
 
 abbrev pub negated : ℤ × ℤ → ℤ × ℤ
 negated c = (neg_ℤ c.0, c.1)

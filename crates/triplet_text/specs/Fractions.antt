@@ -1,6 +1,6 @@
 -- The text of a fraction in lowest terms.
 use Rattle.std.specs.Prelude.{◌==◌, ◌&&◌, if◌then◌else◌, ℕ, zero, suc, ℤ, pos, negsuc, unsigned_abs, List, ◌∷◌, ◌++◌, ◌/◌, ◌%◌, decimal}
-use Rattle.triplet_text.specs.Bytes.{stroke, minus_sign}
+use Rattle.triplet_text.specs.Bytes.{slash, minus_sign}
 
 -- the greatest number from 1 to k that divides n and d; 0 where k is 0
 unfoldable pub common_divisor_up_to : ℕ → ℕ → ℕ → ℕ
@@ -13,7 +13,7 @@ gcd n d = common_divisor_up_to n d d
 
 -- p over q as it is written: q is left out where it is 1
 abbrev pub quotient_text : ℕ → ℕ → List ℕ
-quotient_text p q = if q == 1 then decimal p else decimal p ++ stroke ∷ decimal q
+quotient_text p q = if q == 1 then decimal p else decimal p ++ slash ∷ decimal q
 
 -- n over d in lowest terms
 abbrev pub fraction_text : ℕ → ℕ → List ℕ

@@ -5,7 +5,7 @@ use Rattle.exact_ops.specs.Operator.{Operator, modulo}
 use Rattle.exact_ops.specs.declared.TheConstants.{UNIT}
 use Rattle.triplet_text.specs.declared.component.Component.{Component}
 use Rattle.triplet_text.specs.declared.triplet.TheConstants.{LINE_LENGTH}
-use Rattle.triplet_text.specs.Bytes.{is_blank, is_digit, is_quote, is_x, is_y, is_z, comma, star, plus_sign, minus_sign, point, stroke, zero_digit}
+use Rattle.triplet_text.specs.Bytes.{is_blank, is_digit, is_quote, is_x, is_y, is_z, comma, star, plus_sign, minus_sign, point, slash, zero_digit}
 use Rattle.triplet_text.specs.Tokens.{Token, Sign, Mark, Letter, Number, Each, HasTokens}
 
 -- ---- numbers
@@ -63,7 +63,7 @@ pub data IsTerm : List Token → Component → Type 0 where
   digit_letter : {digit byte n : ℕ} → IsWhole (digit ∷ []) n → IsTerm (Number (digit ∷ []) ∷ Letter byte ∷ []) (times n byte)
   digit_star_letter : {digit byte n : ℕ} → IsWhole (digit ∷ []) n → IsTerm (Number (digit ∷ []) ∷ Mark star ∷ Letter byte ∷ []) (times n byte)
   cells : {run : List ℕ} {n : ℕ} → IsWhole run n → IsTerm (Number run ∷ []) (translation (n * UNIT))
-  fraction : {over under : List ℕ} {parts : ℕ} → IsFraction over under parts → IsTerm (Number over ∷ Mark stroke ∷ Number under ∷ []) (translation parts)
+  fraction : {over under : List ℕ} {parts : ℕ} → IsFraction over under parts → IsTerm (Number over ∷ Mark slash ∷ Number under ∷ []) (translation parts)
   decimal_cells : {run : List ℕ} {parts : ℕ} → IsDecimal run parts → IsTerm (Number run ∷ []) (translation parts)
 
 -- ---- sums

@@ -5,7 +5,7 @@ use Rattle.exact_ops.specs.Operator.{Operator, HasEntriesWithin, AreWithin}
 use Rattle.exact_ops.specs.Map.{Map}
 use Rattle.exact_ops.specs.declared.TheConstants.{UNIT}
 use Rattle.triplet_text.specs.declared.printing.TheConstants.{OVER_LIMIT, PARTS_LIMIT}
-use Rattle.triplet_text.specs.Bytes.{star, plus_sign, minus_sign, comma, zero_digit}
+use Rattle.triplet_text.specs.Bytes.{star, plus_sign, minus_sign, comma, zero_digit, letter_x, letter_y, letter_z}
 use Rattle.triplet_text.specs.Fractions.{fraction_text}
 
 -- n over d times a letter, where n is not 0: the letter alone where n over d is 1
@@ -32,9 +32,9 @@ joined text [] = text
 joined [] (byte ∷ term) = byte ∷ term
 joined (first ∷ text) (byte ∷ term) = (first ∷ text) ++ (if byte == minus_sign then byte ∷ term else plus_sign ∷ byte ∷ term)
 
--- the terms in the order x, y, z (120, 121, 122), constant: coefficients over d, and a constant over UNIT * d
+-- the terms in the order x, y, z, constant: coefficients over d, and a constant over UNIT * d
 abbrev pub terms_text : ℕ → ℤ → ℤ → ℤ → ℤ → List ℕ
-terms_text d x y z parts = fold joined [] (coefficient_text d x 120 ∷ coefficient_text d y 121 ∷ coefficient_text d z 122 ∷ constant_text (UNIT * d) parts ∷ [])
+terms_text d x y z parts = fold joined [] (coefficient_text d x letter_x ∷ coefficient_text d y letter_y ∷ coefficient_text d z letter_z ∷ constant_text (UNIT * d) parts ∷ [])
 
 -- 0 where there is no term
 abbrev pub or_zero : List ℕ → List ℕ

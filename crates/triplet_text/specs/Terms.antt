@@ -3,7 +3,7 @@ use Rattle.std.specs.Prelude.{◌==◌, if◌then◌else◌, ℕ, List, [], ◌�
 use Rattle.std.specs.Option.{option_map}
 use Rattle.exact_ops.specs.declared.TheConstants.{UNIT}
 use Rattle.triplet_text.specs.declared.component.Component.{Component}
-use Rattle.triplet_text.specs.Bytes.{is_digit, zero_digit, star, stroke, point}
+use Rattle.triplet_text.specs.Bytes.{is_digit, zero_digit, star, slash, point}
 use Rattle.triplet_text.specs.Pieces.{cut, trim_start, trim_end}
 use Rattle.triplet_text.specs.Digits.{whole_of, denominator_of, decimal_of}
 use Rattle.triplet_text.specs.Components.{times_letter, of_parts}
@@ -33,7 +33,7 @@ plain_of (byte ∷ next ∷ []) =
     if is_digit byte then times_letter (byte - zero_digit) next else None
 plain_of (byte ∷ next ∷ other ∷ text) = cells_of (byte ∷ next ∷ other ∷ text)
 
--- by what the term has: a star, else a stroke, else a point, else none of them
+-- by what the term has: a star, else a slash, else a point, else none of them
 abbrev pub term_by : Option (List ℕ × List ℕ) → Option (List ℕ × List ℕ) → Option (List ℕ × List ℕ) → List ℕ → Option Component
 term_by (Some product) fraction decimal text = product_of (trim_end product.0) (trim_start product.1)
 term_by None (Some fraction) decimal text = option_map of_parts (fraction_of (trim_end fraction.0) (trim_start fraction.1))
@@ -41,4 +41,4 @@ term_by None None (Some decimal) text = option_map of_parts (decimal_of decimal.
 term_by None None None text = plain_of text
 
 abbrev pub term_of : List ℕ → Option Component
-term_of text = term_by (cut (λ b. b == star) text) (cut (λ b. b == stroke) text) (cut (λ b. b == point) text) text
+term_of text = term_by (cut (λ b. b == star) text) (cut (λ b. b == slash) text) (cut (λ b. b == point) text) text

@@ -1,7 +1,7 @@
 -- The tokens of a triplet, and a text as tokens one behind the other.
 use Rattle.std.specs.Prelude.{◌≡◌, ◌||◌, ◌==◌, ◌<◌, ℕ, Bool, true, false, List, [], ◌∷◌, ◌++◌, length}
 use Rattle.std.specs.List.{AllByRecursion}
-use Rattle.triplet_text.specs.Bytes.{is_sign, is_blank, is_digit, is_x, is_y, is_z, comma, star, stroke, point}
+use Rattle.triplet_text.specs.Bytes.{is_sign, is_blank, is_digit, is_x, is_y, is_z, comma, star, slash, point}
 
 -- a sign, a mark or a letter, by its byte; or a number, by its bytes
 pub data Token : Type 0 where
@@ -21,9 +21,9 @@ bytes_of (Number run) = run
 abbrev pub Each : (ℕ → Bool) → List ℕ → Type 0
 Each passes text = AllByRecursion (λ byte. passes byte ≡ true) text
 
--- a comma, a star or a stroke
+-- a comma, a star or a slash
 abbrev pub is_mark : ℕ → Bool
-is_mark byte = byte == comma || byte == star || byte == stroke
+is_mark byte = byte == comma || byte == star || byte == slash
 
 -- one of x y z X Y Z
 abbrev pub is_letter : ℕ → Bool

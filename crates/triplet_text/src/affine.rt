@@ -6,7 +6,8 @@ use crate::printing::{component, with_commas};
 use crate::text::Text;
 
 /// The affine map with the matrix m / `over`, row by row, and the translation t / (`UNIT` `over`), such as
-/// `1/2*x+1/2*y,-z,1/4`. Each number is a reduced fraction.
+/// `1/2*x+1/2*y,-z,1/4`. Each number is a reduced fraction. `over` is from 1 to `OVER_LIMIT`, each entry within 2 `over`, and
+/// each number of t within `PARTS_LIMIT`.
 pub fn print_affine(m: &[i32; 9], over: i32, t: &[i64; 3]) -> Text
     requires positive { pos 1 ≤ℤ over }
     requires printable { IsPrintable (unsigned_abs over) (numbers_of m.now t.now) }

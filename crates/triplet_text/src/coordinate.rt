@@ -15,7 +15,7 @@ pub const DECIMALS_LIMIT: usize = 6;
 
 /// The numerator and the denominator that a coordinate is written with, such as `-7/2` or `0.25`, which is 25 over 100:
 /// None exactly where the text is no coordinate. A coordinate has a sign or none before a whole number, two whole
-/// numbers with a stroke between them, or a decimal. It has no blanks. Its numerator is at most `MAX_COORDINATE` in
+/// numbers with a slash between them, or a decimal. It has no blanks. Its numerator is at most `MAX_COORDINATE` in
 /// size, and its denominator is from 1 to `MAX_DENOMINATOR`. Both are as written, and not in lowest terms.
 pub fn read_coord(text: &[u8]) -> Option<(i64, i64)>
     ensures some { IsSome result ↔ ((n : ℤ) × (d : ℤ) × IsCoordinate text.now n d) }

@@ -1,4 +1,4 @@
-ghost use Rattle.std.specs.Prelude.{◌≡◌, ◌==◌, ◌∷◌, [], ◌<◌, ◌≤◌, MatchOption, OnOk, IfOk, IfErr, length, position};
+ghost use Rattle.std.specs.Prelude.{◌≡◌, ◌==◌, ◌∷◌, [], ◌+◌, ◌<◌, ◌≤◌, ◌^◌, MatchOption, OnOk, IfOk, IfErr, length, position};
 ghost use Rattle.triplet_text.specs.Bytes.{line_feed};
 ghost use Rattle.triplet_text.specs.Pieces.{is_skipped};
 ghost use Rattle.triplet_text.specs.Lines.{lines_of, AreRead, AddsRead, IsFaultAt, IsFaultOf};
@@ -16,12 +16,14 @@ pub enum LineFault {
     Unreadable(u32),
     /// The first bad line, counted from 1, is a triplet whose matrix has no whole inverse.
     NotUnimodular(u32),
+    /// There is no memory for one more, which may come for any input.
     NoMemory,
 }
 
-/// What the lines say that are not skipped, in order. Each line feed ends a line; what follows the last one is a line too.
+/// What the lines say that are not skipped, in order; or the first bad line. Each line feed ends a line; what follows the last
+/// one is a line too. There are no more lines than a u32 can count.
 pub fn read_lines(alloc: Global, bytes: &[u8]) -> Result<OpList, LineFault>
-    requires { length bytes.now ≤ 1048576 }
+    requires { length bytes.now + 2 < 2 ^ 32 }
     ensures ok { IfOk result (AreRead (lines_of bytes.now)) }
     ensures fault { IfErr result (IsFaultOf (lines_of bytes.now)) }
 {

@@ -7,13 +7,14 @@ ghost use Rattle.triplet_text.specs.Grammar.{IsTriplet};
 
 use crate::fraction::{lowest_terms, print_frac};
 use crate::text::Text;
-use exact_ops::{Move, Op, UNIT};
+use exact_ops::{MAX_SHIFT, Move, Op, UNIT};
 
-/// The numbers of a map are printed over at most this.
+/// The numbers of an affine map are printed over at most this: as many as a group has members at most, since an average over
+/// the members has this denominator.
 pub const OVER_LIMIT: u32 = 192;
 
-/// A constant of so many parts can be printed, on both sides of 0.
-pub const PARTS_LIMIT: u64 = 130_000_000_000;
+/// A constant of so many parts can be printed, on both sides of 0. That of a `Move` has at most `UNIT * MAX_SHIFT + UNIT - 1`.
+pub const PARTS_LIMIT: u64 = (UNIT as u64 + 1) * MAX_SHIFT;
 
 /// The triplet of an operator, with a reduced fraction for each number of its translation that is not 0.
 pub fn print_triplet(op: &Op) -> Text
