@@ -15,23 +15,23 @@ use Rattle.finite_groups.specs.Words.{IsLetter, value, Span, Closes, IsClosedLis
 use Rattle.finite_groups.proofs.Members as members
 use Rattle.finite_groups.proofs.Closing.{spans, too_many, span_one, span_gen}
 
-abbrev column : ℤ → ℤ → ℤ → Column
+abbrev pub column : ℤ → ℤ → ℤ → Column
 column x y z = record { x = x; y = y; z = z }
 
 -- -1
-abbrev minus : ℤ
+abbrev pub minus : ℤ
 minus = negsuc 0
 
 -- -x,-y,-z
-abbrev inversion : Matrix
+abbrev pub inversion : Matrix
 inversion = matrix_of (minus ∷ pos 0 ∷ pos 0 ∷ pos 0 ∷ minus ∷ pos 0 ∷ pos 0 ∷ pos 0 ∷ minus ∷ [])
 
 -- -y,x-y,z
-abbrev threefold : Matrix
+abbrev pub threefold : Matrix
 threefold = matrix_of (pos 0 ∷ minus ∷ pos 0 ∷ pos 1 ∷ minus ∷ pos 0 ∷ pos 0 ∷ pos 0 ∷ pos 1 ∷ [])
 
 -- -x+y,-x,z
-abbrev threefold_back : Matrix
+abbrev pub threefold_back : Matrix
 threefold_back = matrix_of (minus ∷ pos 1 ∷ pos 0 ∷ minus ∷ pos 0 ∷ pos 0 ∷ pos 0 ∷ pos 0 ∷ pos 1 ∷ [])
 
 -- -y,x,z
@@ -135,7 +135,7 @@ unfolding modulo ◌+ᶜ◌ times
 not_its_shift e = let x : minus ≡ pos 23 = ap (λ (c : Column). c.x) e in omega (arith, ints)
 
 -- y,x,-z with the shift 1,0,-1 takes 1/2,1/3,0 to 4/3,1/2,-1
-abbrev point : ℤ → ℤ → ℤ → ℤ → Point
+abbrev pub point : ℤ → ℤ → ℤ → ℤ → Point
 point x y z d = record { n = column x y z; d = d }
 
 abbrev two : Map
@@ -186,10 +186,10 @@ not_its_order o = let e : 6 ≤ 3 = o.least 3 (omega arith) refl in omega arith
 listed : (f g : Operator) → Contains (f ∷ []) g → f ≡ g
 listed f g c = ⊎_elim (λ e. e) (λ n. members.not_in_nil g n) (members.Contains-cases g f [] c)
 
-some_parts : 0 < 12
+pub some_parts : 0 < 12
 some_parts = omega arith
 
-abbrev F : Group
+abbrev pub F : Group
 F = operators 12 some_parts
 
 -- the word of -y,x,z and then x+1/12,y,z has the value -y,x+1/12,z: the left letter is done last
@@ -226,20 +226,20 @@ no_letter (inl c) = let e : pos 0 ≡ minus = ap (λ (f : Operator). f.w.xx) (li
 no_letter (inr l) = let e : pos 9 ≡ pos 0 = ap (λ (f : Operator). f.t.z) (ap (λ f. product 12 f squared_screw) (listed screw l.0 l.1) ∙ l.3) in omega (arith, ints)
 
 -- x,y,z and -x,-y,-z are a closed list
-abbrev inverting : Operator
+abbrev pub inverting : Operator
 inverting = record { w = inversion; t = origin }
 
-abbrev both : List Operator
+abbrev pub both : List Operator
 both = identity_operator ∷ inverting ∷ []
 
-inverting_is_operator : IsOperator 12 inverting
+pub inverting_is_operator : IsOperator 12 inverting
 unfolding ◌·◌
 inverting_is_operator = record { unimodular = (inversion, refl, refl); in_cell = parts_of 0 0 0 (omega arith) (omega arith) (omega arith) }
 
-in_both : (f : Operator) → Contains both f → (identity_operator ≡ f) ⊎ (inverting ≡ f)
+pub in_both : (f : Operator) → Contains both f → (identity_operator ≡ f) ⊎ (inverting ≡ f)
 in_both f c = ⊎_elim (λ e. inl e) (λ d. inr (listed inverting f d)) (members.Contains-cases f identity_operator (inverting ∷ []) c)
 
-closed_list : IsClosedList F both
+pub closed_list : IsClosedList F both
 unfolding product modulo ◌·◌ ◌·ᶜ◌ ◌+ᶜ◌
 closed_list = record {
   distinct = IsDistinct-from_AllPairs F.same both (AllPairs-cons (λ f g. f ≢ g) identity_operator (inverting ∷ []) (All-from_recursion (λ g. identity_operator ≢ g) (inverting ∷ []) (apart, tt)) (λ i j d l m. absurd (omega arith)));

@@ -11,4 +11,4 @@ pub mod Maps
 pub mod Operators
 pub mod Powers
 pub mod Points
-mod Examples
+pub mod Examples
