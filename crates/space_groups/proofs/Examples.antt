@@ -1,17 +1,28 @@
 -- Worked examples of averages, keys and rows: the definitions on literals, in parts of a cell of 12.
-use Rattle.std.proofs.Common.{◌≡◌, ◌∷◌, [], ℕ, inl, inr, ℤ, pos, negsuc, ◌+ℤ◌, ◌*ℤ◌, ap, refl, arith}
+use Rattle.std.proofs.Common.{◌≡◌, ◌≢◌, ◌∷◌, [], ℕ, inl, inr, ⊎_elim, List, ℤ, pos, negsuc, ◌+ℤ◌, ◌*ℤ◌, Contains, ap, refl, subst, arith}
 use Rattle.std.proofs.lemmas.Int.{ints}
-use Rattle.lattice_algebra.specs.Matrix.{Matrix, Column, matrix_of, det, adjugate, scaled, identity, origin, no_matrix, ◌·◌, ◌·ᶜ◌, ◌+ᶜ◌, ◌+ᵐ◌, neg_column, times}
-use Rattle.lattice_algebra.specs.Operator.{modulo}
+use Rattle.std.proofs.lemmas.List.Kept.{AllPairs-cons}
+use Rattle.std.proofs.lemmas.List.Elements.{All-from_recursion}
+use Rattle.std.proofs.lemmas.Map.Made.{IsDistinct-from_AllPairs}
+use Rattle.lattice_algebra.specs.Matrix.{Matrix, Column, matrix_of, det, adjugate, scaled, identity, origin, no_matrix, ◌·◌, ◌·ᶜ◌, ◌+ᶜ◌, ◌+ᵐ◌, neg_column, times, IsUnimodular}
+use Rattle.lattice_algebra.specs.Operator.{Operator, IsOperator, modulo, product}
 use Rattle.lattice_algebra.specs.Map.{Map, ◌∘◌, identity_map, undo}
+use Rattle.lattice_algebra.specs.Point.{IsPoint, image}
 use Rattle.lattice_algebra.proofs.Ring.{var, con, ◌⊕◌, ◌⊗◌, known, ring_from}
 use Rattle.lattice_algebra.proofs.Numbers.{cancel_number}
-use Rattle.lattice_algebra.proofs.Examples.{column, minus, inversion, threefold, threefold_back}
-use Rattle.space_groups.specs.Space.{ScaledPoint, moved}
+use Rattle.lattice_algebra.proofs.Operators.{operators}
+use Rattle.lattice_algebra.proofs.Points.{IsPoint-image}
+use Rattle.lattice_algebra.proofs.Examples.{column, minus, inversion, threefold, threefold_back, point, some_parts}
+use Rattle.finite_groups.specs.Words.{IsClosedList}
+use Rattle.finite_groups.proofs.Members as lists
+use Rattle.space_groups.specs.Space.{AreConjugate, ScaledPoint, moved}
 use Rattle.space_groups.specs.Averages.{Block, block_of, block_plus, block_times, block_scaled, block_on, vector_scaled, IsMean, IsInImage}
 use Rattle.space_groups.specs.Keys.{Key, carried, key_of, IsBelow, ComesBefore}
 use Rattle.space_groups.specs.Regions.{Sizes, IsWhole, IsReach, IsNear, IsInBox, shift_by}
 use Rattle.space_groups.specs.Rows.{row_point, Lies, Row, IsRowBefore, IsAt}
+use Rattle.space_groups.proofs.Elements.{SpaceGroup}
+use Rattle.space_groups.proofs.Regions.{shift_in}
+use Rattle.space_groups.proofs.Laws.{conjugate_by_members, same_site}
 use Rattle.space_groups.proofs.Ordered.{row_not_itself, row_on}
 
 abbrev o : ℤ
@@ -136,6 +147,21 @@ one_key : key_of 12 2 (middle (pos 36)) ≡ key_of 12 2 (middle (pos 12))
 unfolding key_of modulo
 one_key = refl
 
+-- x,-y+1/2,z+1/2 carries the average of the inversion at 0,1/2,1/2, over the 4 operators of P2_1/c, to 0,0,1: its key is that of 0,0,0
+abbrev glide : Map
+glide = record { w = matrix_of (pos 1 ∷ o ∷ o ∷ o ∷ minus ∷ o ∷ o ∷ o ∷ pos 1 ∷ []); s = column o (pos 6) (pos 6) }
+
+abbrev on_yz : ℤ → ℤ → Block
+on_yz y z = record { m = no_matrix; t = column o y z; n = pos 4 }
+
+carried_by_glide : carried glide (on_yz (pos 24) (pos 24)) ≡ on_yz o (pos 48)
+unfolding carried block_times block_of undo det adjugate scaled times ◌·◌ ◌·ᶜ◌ ◌+ᶜ◌ neg_column
+carried_by_glide = refl
+
+key_of_origin : key_of 12 4 (on_yz o (pos 48)) ≡ key_of 12 4 (on_yz o o)
+unfolding key_of modulo
+key_of_origin = refl
+
 -- keys: the greater matrix comes first, then the lesser translation
 abbrev key : Matrix → ℤ → ℤ → Key
 key m x z = record { m = m; t = column x o z }
@@ -239,3 +265,61 @@ in_box = record { shift = column (pos 8) (negsuc 7) o; is_shift = refl; x = omeg
 not_in_box : IsInBox 12 (sizes 4) (inversion_at (pos 9) o) → ⊥
 unfolding modulo times ◌+ᶜ◌
 not_in_box b = let e : pos 108 ≡ o +ℤ pos 12 *ℤ b.shift.x = ap (λ (c : Column). c.x) b.is_shift in let l = b.x in omega (arith, ints, e, l)
+
+-- ---- conjugate points
+
+-- x,y,z and -y,x-y,z and -x+y,-x,z
+abbrev turn : Matrix → Operator
+turn w = record { w = w; t = origin }
+
+abbrev three : List Operator
+three = turn identity ∷ turn threefold ∷ turn threefold_back ∷ []
+
+in_three : (f : Operator) → Contains three f → (P : Operator → Type 0) → P (turn identity) → P (turn threefold) → P (turn threefold_back) → P f
+in_three f c P a b d =
+    ⊎_elim (λ e. subst P e a) (λ r. ⊎_elim (λ e. subst P e b) (λ t. ⊎_elim (λ e. subst P e d) (λ n. lists.not_in_nil f n) (lists.Contains-cases f (turn threefold_back) [] t)) (lists.Contains-cases f (turn threefold) (turn threefold_back ∷ []) r))
+    (lists.Contains-cases f (turn identity) (turn threefold ∷ turn threefold_back ∷ []) c)
+
+three_products : (f g : Operator) → Contains three f → Contains three g → Contains three (product 12 f g)
+unfolding product modulo ◌·◌ ◌·ᶜ◌ ◌+ᶜ◌
+three_products f g p q =
+    let one : Contains three (turn identity) = (0, omega arith, refl) in
+    let two : Contains three (turn threefold) = (1, omega arith, refl) in
+    let back : Contains three (turn threefold_back) = (2, omega arith, refl) in
+    let at : Operator → Type 0 = λ f. (g : Operator) → Contains three g → Contains three (product 12 f g) in
+    in_three f p at
+    (λ g q. in_three g q (λ g. Contains three (product 12 (turn identity) g)) one two back)
+    (λ g q. in_three g q (λ g. Contains three (product 12 (turn threefold) g)) two back one)
+    (λ g q. in_three g q (λ g. Contains three (product 12 (turn threefold_back) g)) back one two)
+    g q
+
+turn_is_operator : (w : Matrix) → IsUnimodular w → IsOperator 12 (turn w)
+turn_is_operator w u = record { unimodular = u; in_cell = (operators 12 some_parts).one_in.in_cell }
+
+three_closed : IsClosedList (operators 12 some_parts) three
+unfolding ◌·◌
+three_closed = record {
+  distinct = IsDistinct-from_AllPairs (operators 12 some_parts).same three
+      (AllPairs-cons (λ f g. f ≢ g) (turn identity) (turn threefold ∷ turn threefold_back ∷ [])
+      (All-from_recursion (λ g. turn identity ≢ g) (turn threefold ∷ turn threefold_back ∷ []) (λ e. apart _ _ e (λ x. let y : pos 1 ≡ o = x in omega (arith, ints)), (λ e. apart _ _ e (λ x. let y : pos 1 ≡ minus = x in omega (arith, ints)), tt)))
+      (AllPairs-cons (λ f g. f ≢ g) (turn threefold) (turn threefold_back ∷ []) (All-from_recursion (λ g. turn threefold ≢ g) (turn threefold_back ∷ []) (λ e. apart _ _ e (λ x. let y : o ≡ minus = x in omega (arith, ints)), tt)) (λ i j d l m. absurd (omega arith))));
+  valid = All-from_recursion (IsOperator 12) three ((operators 12 some_parts).one_in, (turn_is_operator threefold (threefold_back, refl, refl), (turn_is_operator threefold_back (threefold, refl, refl), tt)));
+  has_one = (0, omega arith, refl);
+  closed = three_products;
+}
+  where
+    apart : (f g : Operator) → f ≡ g → (f.w.xx ≡ g.w.xx → ⊥) → ⊥
+    apart f g e n = n (ap (λ (h : Operator). h.w.xx) e)
+
+abbrev L : SpaceGroup
+L = record { unit = 12; some = some_parts; members = three; closed = three_closed }
+
+-- 1/3,2/3,0 and its image 4/3,-1/3,0 are conjugate
+image_is_conjugate : AreConjugate 12 three (point (pos 1) (pos 2) o (pos 3)) (point (pos 4) minus o (pos 3))
+unfolding image times ◌·ᶜ◌ ◌+ᶜ◌
+image_is_conjugate =
+    let x = point (pos 1) (pos 2) o (pos 3) in
+    let y = point (pos 4) minus o (pos 3) in
+    let g : Map = shift_by 12 (column (pos 1) minus o) in
+    let p : IsPoint x = omega (arith, ints) in
+    (conjugate_by_members L x y p (omega (arith, ints))).1 (g, shift_in L (column (pos 1) minus o), λ f c s e. same_site L (image 12 g x) y (IsPoint-image 12 some_parts g x p) (omega (arith, ints)) refl s)
