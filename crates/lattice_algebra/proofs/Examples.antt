@@ -166,7 +166,7 @@ its_sum : sum_of_powers threefold 3 ≡ matrix_of (pos 0 ∷ pos 0 ∷ pos 0 ∷
 unfolding sum_of_powers power ◌·◌ ◌+ᵐ◌
 its_sum = refl
 
-its_order : IsOrder threefold 3
+pub its_order : IsOrder threefold 3
 unfolding power ◌·◌
 its_order = record { positive = omega arith; returns = refl; least = least }
   where

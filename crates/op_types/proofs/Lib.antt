@@ -10,3 +10,4 @@ mod FixedColumns
 pub mod OneType
 pub mod SomeType
 mod PowersOfOperations
+mod Examples
