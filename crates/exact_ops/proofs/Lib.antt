@@ -5,3 +5,4 @@ mod Points
 mod Images
 mod ShiftedImages
 mod WholeShifts
+mod Examples

@@ -2,3 +2,4 @@ mod Images
 mod Order
 pub mod OrbitLists
 mod Counts
+mod Examples

@@ -16,7 +16,7 @@ use Rattle.lattice_algebra.proofs.Examples.{column, minus, inversion, threefold,
 use Rattle.finite_groups.specs.Words.{IsClosedList}
 use Rattle.finite_groups.proofs.Members as lists
 use Rattle.space_groups.specs.Space.{AreConjugate, ScaledPoint, moved}
-use Rattle.space_groups.specs.Averages.{Block, block_of, block_plus, block_times, block_scaled, block_on, vector_scaled, IsMean, IsInImage}
+use Rattle.space_groups.specs.Averages.{Block, Vector, vector_plus, block_of, block_plus, block_times, block_scaled, block_on, vector_scaled, IsMean, IsInImage}
 use Rattle.space_groups.specs.Keys.{Key, carried, key_of, IsBelow, ComesBefore}
 use Rattle.space_groups.specs.Regions.{Sizes, IsWhole, IsReach, IsNear, IsInBox, shift_by}
 use Rattle.space_groups.specs.Rows.{row_point, Lies, Row, IsRowBefore, IsAt}
@@ -47,7 +47,15 @@ no_average : IsMean 2 (identity_map ∷ inverted (pos 12) ∷ []) (middle (pos 6
 unfolding block_scaled block_plus block_of scaled times ◌+ᵐ◌ ◌+ᶜ◌
 no_average e = let x : pos 12 ≡ pos 24 = ap (λ (a : Block). a.t.x) e in omega (arith, ints)
 
--- the point n / 12 d on the line through the origin along x
+-- a point and its image by the inversion add up to twice the centre
+abbrev five_twelfths : Vector
+five_twelfths = record { p = column (pos 5) o o; d = pos 1 }
+
+twice_the_centre : vector_plus (block_on (block_of identity_map) five_twelfths) (block_on (block_of (inverted (pos 12))) five_twelfths) ≡ record { p = column (pos 12) o o; d = pos 2 }
+unfolding vector_plus block_on block_of times ◌·ᶜ◌ ◌+ᶜ◌
+twice_the_centre = refl
+
+-- the point n / 12,0,0
 abbrev on_x : ℤ → ScaledPoint
 on_x n = record { n = column n o o; d = 1; some = omega arith }
 

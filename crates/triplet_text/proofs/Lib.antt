@@ -23,3 +23,4 @@ mod AffineValues
 mod AffineSame
 mod LineSteps
 pub mod LineLaws
+mod Examples

@@ -3,6 +3,9 @@ use std::test::Fail;
 
 const INVERSION: &str = "-x,-y,-z";
 
+/// P 1 21/c 1
+const MONOCLINIC: &str = "-x,y+1/2,-z+1/2\n-x,-y,-z";
+
 /// P 6/m m m
 const HEXAGONAL: &str = "x-y,x,z\ny,x,-z\n-x,-y,-z";
 
@@ -10,7 +13,7 @@ const HEXAGONAL: &str = "x-y,x,z\ny,x,-z\n-x,-y,-z";
 const CUBIC: &str = "x,y+1/2,z+1/2\nx+1/2,y,z+1/2\n-x,-y,z\n-x,y,-z\nz,x,y\ny,x,-z\n-x,-y,-z";
 
 /// An input, a point, and what `site` prints of it.
-const SITES: [(&str, [&str; 3], &str); 4] = [
+const SITES: [(&str, [&str; 3], &str); 8] = [
     (
         INVERSION,
         ["1/2", "0", "0"],
@@ -21,6 +24,49 @@ const SITES: [(&str, [&str; 3], &str); 4] = [
         "",
         ["-7/2", ".25", "1."],
         "order 1\nmultiplicity 1\nfix x,y,z\nat 1/2 1/4 0\n",
+    ),
+    // Points moved by a screw axis and a glide plane.
+    (
+        MONOCLINIC,
+        ["0.1", "0.2", "0.3"],
+        "order 1\n\
+         multiplicity 4\n\
+         fix x,y,z\n\
+         at 1/10 1/5 3/10\n\
+         at 1/10 3/10 4/5\n\
+         at 9/10 7/10 1/5\n\
+         at 9/10 4/5 7/10\n",
+    ),
+    (
+        MONOCLINIC,
+        ["0", "1/2", "1/2"],
+        "order 2\n\
+         multiplicity 2\n\
+         fix x,y,z\n\
+         fix -x,-y+1,-z+1\n\
+         at 0 0 0\n\
+         at 0 1/2 1/2\n",
+    ),
+    (
+        "-y,x,z+1/4",
+        ["0.1", "0.2", "0"],
+        "order 1\n\
+         multiplicity 4\n\
+         fix x,y,z\n\
+         at 1/10 1/5 0\n\
+         at 1/5 9/10 3/4\n\
+         at 4/5 1/10 1/4\n\
+         at 9/10 4/5 1/2\n",
+    ),
+    // The twofold axis 3/4,0,z: the half of a cell of its operator, and a whole one.
+    (
+        "-x+1/2,-y,z",
+        ["3/4", "0", "0.1"],
+        "order 2\n\
+         multiplicity 1\n\
+         fix x,y,z\n\
+         fix -x+3/2,-y,z\n\
+         at 3/4 0 1/10\n",
     ),
     (
         HEXAGONAL,

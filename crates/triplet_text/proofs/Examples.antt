@@ -1,0 +1,39 @@
+-- Worked examples of the definitions that no test of a function shows by itself, on literals.
+use Rattle.std.proofs.Common.{◌≡◌, ℤ, pos, negsuc, ap, refl, arith}
+use Rattle.std.proofs.lemmas.Int.{ints}
+use Rattle.exact_ops.specs.Matrix.{Column, scaled, times, identity, origin}
+use Rattle.exact_ops.specs.Operator.{Operator}
+use Rattle.triplet_text.specs.Printing.{IsPrintable, IsSameMap}
+
+-- x,y,z+1 over 2 has the translation 24, and over 1 the translation 12
+abbrev doubled : ℤ → Operator
+doubled z = record { w = scaled (pos 2) identity; t = record { x = pos 0; y = pos 0; z = z } }
+
+abbrev single : Operator
+single = record { w = identity; t = record { x = pos 0; y = pos 0; z = pos 12 } }
+
+one_map : IsSameMap 2 (doubled (pos 24)) 1 single
+unfolding scaled times
+one_map = record { matrix = refl; translation = refl }
+
+other_map : IsSameMap 2 (doubled (pos 12)) 1 single → ⊥
+unfolding times
+other_map s = let e : pos 12 ≡ pos 24 = ap (λ (c : Column). c.z) s.translation in omega (arith, ints)
+
+-- -2*x over 2 has the entry -4, within 4; over 1 it is beyond 2
+abbrev wide : Operator
+wide = record { w = scaled (negsuc 3) identity; t = origin }
+
+printable : IsPrintable 2 wide
+unfolding scaled
+printable =
+    record {
+      positive = omega arith;
+      over = omega arith;
+      narrow = record { x = record { first = omega arith; second = omega arith; third = omega arith }; y = record { first = omega arith; second = omega arith; third = omega arith }; z = record { first = omega arith; second = omega arith; third = omega arith } };
+      parts = record { first = omega arith; second = omega arith; third = omega arith };
+    }
+
+not_printable : IsPrintable 1 wide → ⊥
+unfolding scaled
+not_printable p = omega (arith, p.narrow.x.first)
