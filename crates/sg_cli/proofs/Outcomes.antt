@@ -5,7 +5,7 @@ use Rattle.std.proofs.lemmas.List.{append-nil}
 use Rattle.std.specs.Io.KnownBytes.{Appends, Consumes, IsAtEnd}
 use Rattle.sg_io.specs.declared.sink.SinkStop.{SinkStop}
 use Rattle.sg_io.specs.declared.sink.SinkStop.TheVariants as sinks
-use Rattle.sg_io.specs.Bytes.{AppendsFront}
+use Rattle.sg_io.specs.Bytes.{AppendsPrefix}
 use Rattle.sg_io.specs.Count.{Rose}
 use Rattle.exact_ops.specs.Operator.{Operator}
 use Rattle.triplet_text.specs.Lines.{lines_of, AreRead}
@@ -41,7 +41,7 @@ all_told (Some all) (Some rest) bytes P taken end h = subst P (sym (taken ∙ ap
 
 -- what writing a text did, by its outcome
 pub told : {K : Type 0} (sink : SeenSink K) (old new : K) (text : List ℕ) (result : Result (Unit {0}) SinkStop)
-    → OnOk result (Appends (sink.held old) (sink.held new) text) → OnErr result (AppendsFront (sink.held old) (sink.held new) text)
+    → OnOk result (Appends (sink.held old) (sink.held new) text) → OnErr result (AppendsPrefix (sink.held old) (sink.held new) text)
     → (IsErrOf result sinks.Failed → Rose (sink.faults old) (sink.faults new)) → (IsErrOf result sinks.NoMemory → Rose (sink.wants old) (sink.wants new)) → IsTold sink old new text
 told sink old new text (Ok done) ok err failed no_memory = record { front = (text, ([], append-nil text), ok); whole = λ faults wants. ok }
 told sink old new text (Err sinks.Failed) ok err failed no_memory = record { front = err; whole = λ faults wants. absurd (faults (failed refl)) }

@@ -2,7 +2,7 @@
 use Rattle.std.specs.Prelude.{◌≡◌, ◌≢◌, ◌⊎◌, ◌==◌, if◌then◌else◌, List, ℕ, Option, IfSome}
 use Rattle.std.specs.Io.KnownBytes.{Appends}
 use Rattle.sg_io.specs.Count.{Rose}
-use Rattle.sg_io.specs.Bytes.{AppendsFront}
+use Rattle.sg_io.specs.Bytes.{AppendsPrefix}
 use Rattle.table_print.specs.Lines.{SomeText}
 use Rattle.sg_cli.specs.declared.fault.Fault.{Fault}
 use Rattle.sg_cli.specs.Answer.{Answer, Printed, Refused, IsAnswer, status_of_answer}
@@ -44,7 +44,7 @@ Completes words left old new status = IfSome left (λ bytes. (text : List ℕ) �
 module _ {K : Type 0} (sink : SeenSink K) where
   open sink use {held, faults, wants}
 
-  -- the sink took a front of the text, and the whole of it where none of its counts rose
+  -- the sink took a prefix of the text, and the whole of it where none of its counts rose
   pub record IsTold (old new : K) (text : List ℕ) : Type 0 where
-    pub front : AppendsFront (held old) (held new) text
+    pub front : AppendsPrefix (held old) (held new) text
     pub whole : (Rose (faults old) (faults new) → ⊥) → (Rose (wants old) (wants new) → ⊥) → Appends (held old) (held new) text

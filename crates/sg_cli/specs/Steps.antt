@@ -2,7 +2,7 @@
 use Rattle.std.specs.Prelude.{◌≡◌, ◌⊎◌, ◌+◌, List, ℕ, Result, Ok, Err}
 use Rattle.std.specs.Io.KnownBytes.{Appends, IsAtEnd}
 use Rattle.sg_io.specs.Count.{Rose}
-use Rattle.sg_io.specs.Bytes.{AppendsFront, ConsumesSome}
+use Rattle.sg_io.specs.Bytes.{AppendsPrefix, ConsumesSome}
 use Rattle.table_print.specs.Lines.{SomeText}
 use Rattle.sg_cli.specs.declared.TheConstants.{MAX_INPUT}
 use Rattle.sg_cli.specs.declared.fault.Fault.{Fault}
@@ -23,15 +23,15 @@ module _ {K : Type 0} (sink : SeenSink K) where
   -- what printing a text did to the output
   abbrev pub Prints : (List ℕ → Type 0) → K → K → Result (Unit {0}) Fault → Type 0
   Prints IsText old new (Ok done) = SomeText IsText (Appends (held old) (held new))
-  Prints IsText old new (Err fault.Writing) = SomeText IsText (AppendsFront (held old) (held new)) × Rose (faults old) (faults new)
-  Prints IsText old new (Err fault.NoMemory) = (new ≡ old) ⊎ (Rose (wants old) (wants new) × SomeText IsText (AppendsFront (held old) (held new)))
+  Prints IsText old new (Err fault.Writing) = SomeText IsText (AppendsPrefix (held old) (held new)) × Rose (faults old) (faults new)
+  Prints IsText old new (Err fault.NoMemory) = (new ≡ old) ⊎ (Rose (wants old) (wants new) × SomeText IsText (AppendsPrefix (held old) (held new)))
   Prints IsText old new (Err other) = ⊥
 
   -- what answering a command did to the output
   abbrev pub Answers : Command → List ℕ → K → K → Result (Unit {0}) Fault → Type 0
   Answers command bytes old new (Ok done) = PrintsSuch command bytes (Appends (held old) (held new))
-  Answers command bytes old new (Err fault.Writing) = PrintsSuch command bytes (AppendsFront (held old) (held new)) × Rose (faults old) (faults new)
-  Answers command bytes old new (Err fault.NoMemory) = (new ≡ old) ⊎ (Rose (wants old) (wants new) × PrintsSuch command bytes (AppendsFront (held old) (held new)))
+  Answers command bytes old new (Err fault.Writing) = PrintsSuch command bytes (AppendsPrefix (held old) (held new)) × Rose (faults old) (faults new)
+  Answers command bytes old new (Err fault.NoMemory) = (new ≡ old) ⊎ (Rose (wants old) (wants new) × PrintsSuch command bytes (AppendsPrefix (held old) (held new)))
   Answers command bytes old new (Err other) = IsAnswerTo command bytes (Refused other) × (new ≡ old)
 
   module _ {S : Type 0} (source : SeenSource S) where
@@ -41,6 +41,6 @@ module _ {K : Type 0} (sink : SeenSink K) where
     Serves words s t old new (Err fault.Words) = IsNoCommand words × (t ≡ s) × (new ≡ old)
     Serves words s t old new (Err fault.Reading) = Rose (source.faults s) (source.faults t) × (new ≡ old)
     Serves words s t old new (Err fault.TooLong) = ConsumesSome (source.left s) (source.left t) (λ count. count ≡ MAX_INPUT + 1) × IfRefused words (source.left s) fault.TooLong × (new ≡ old)
-    Serves words s t old new (Err fault.Writing) = IsAtEnd (source.left t) × IfPrinted words (source.left s) (AppendsFront (held old) (held new)) × Rose (faults old) (faults new)
-    Serves words s t old new (Err fault.NoMemory) = (new ≡ old) ⊎ (Rose (wants old) (wants new) × IfPrinted words (source.left s) (AppendsFront (held old) (held new)))
+    Serves words s t old new (Err fault.Writing) = IsAtEnd (source.left t) × IfPrinted words (source.left s) (AppendsPrefix (held old) (held new)) × Rose (faults old) (faults new)
+    Serves words s t old new (Err fault.NoMemory) = (new ≡ old) ⊎ (Rose (wants old) (wants new) × IfPrinted words (source.left s) (AppendsPrefix (held old) (held new)))
     Serves words s t old new (Err other) = IsAtEnd (source.left t) × IfRefused words (source.left s) other × (new ≡ old)

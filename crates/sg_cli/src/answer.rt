@@ -1,6 +1,6 @@
 ghost use Rattle.std.specs.Prelude.{◌≡◌, ◌≢◌, ◌⊎◌, ◌↔◌, ◌+◌, ◌≤◌, List, ℕ, IfSome, length, OnOk, OnErr, IsErrOf};
 ghost use Rattle.std.specs.Io.KnownBytes.{Appends, IsAtEnd};
-ghost use Rattle.sg_io.specs.Bytes.{AppendsFront, ConsumesSome};
+ghost use Rattle.sg_io.specs.Bytes.{AppendsPrefix, ConsumesSome};
 ghost use Rattle.sg_io.specs.Count.{Rose};
 ghost use Rattle.table_print.specs.Lines.{SomeText};
 ghost use Rattle.sg_cli.specs.declared.fault.Fault.{Fault};
@@ -114,13 +114,13 @@ pub fn run<S: Source, K: Sink, E: Sink>(
     ensures status_too_long { result ≡ 10 →
         ConsumesSome (S.left source.old) (S.left source.new) (λ count. count ≡ MAX_INPUT + 1) }
 
-    // The output is the text of the answer, or a front of it.
+    // The output is the text of the answer, or a prefix of it.
     ensures output { result ≡ 0 →
         IfPrinted (texts words.now) (S.left source.old) (Appends (K.held out.old) (K.held out.new)) }
     ensures output_prefix { result ≡ 4 →
-        IfPrinted (texts words.now) (S.left source.old) (AppendsFront (K.held out.old) (K.held out.new)) }
+        IfPrinted (texts words.now) (S.left source.old) (AppendsPrefix (K.held out.old) (K.held out.new)) }
     ensures output_memory { result ≡ 9 → (out.new ≡ out.old) ⊎ (Rose (K.wants out.old) (K.wants out.new)
-        × IfPrinted (texts words.now) (S.left source.old) (AppendsFront (K.held out.old) (K.held out.new))) }
+        × IfPrinted (texts words.now) (S.left source.old) (AppendsPrefix (K.held out.old) (K.held out.new))) }
     ensures output_none { IsRefusal result → out.new ≡ out.old }
 
     ensures write_fault { result ≡ 4 → Rose (K.faults out.old) (K.faults out.new) }

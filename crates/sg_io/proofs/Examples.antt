@@ -1,6 +1,6 @@
 -- Worked examples: counts, and what is taken and held, on literals.
 use Rattle.std.proofs.Common.{length-append, slice_index_or, ◌≡◌, ◌∷◌, [], ◌++◌, ℕ, ◌-◌, ◌^◌, List, length, Some, Ok, Err, codes, ap, refl, arith}
-use Rattle.sg_io.specs.Bytes.{ConsumesSome, AppendsFront}
+use Rattle.sg_io.specs.Bytes.{ConsumesSome, AppendsPrefix}
 use Rattle.sg_io.specs.Count.{Rose, CountsErrors, CountsError}
 
 -- a count rises from 3 to 4; at its last value it stands still and counts as risen
@@ -37,11 +37,11 @@ this_error : CountsError {T = ℕ} {E = ℕ} 3 3 (Err 7) 7 → ⊥
 this_error h = let e : ◌≡◌ {A = ℕ} 3 4 = h.0 refl in omega arith
 
 -- x, and then y of y,z
-front_appended : AppendsFront (Some (codes "x,")) (Some (codes "x,y")) (codes "y,z")
+front_appended : AppendsPrefix (Some (codes "x,")) (Some (codes "x,y")) (codes "y,z")
 front_appended = (codes "y", (codes ",z", refl), refl)
 
 -- not z, though it stands in y,z
-no_front : AppendsFront (Some (codes "x,")) (Some (codes "x,z")) (codes "y,z") → ⊥
+no_front : AppendsPrefix (Some (codes "x,")) (Some (codes "x,z")) (codes "y,z") → ⊥
 no_front h = by h.0 h.1.0 h.1.1 h.2
   where
     by : (front rest : List ℕ) → front ++ rest ≡ codes "y,z" → codes "x,z" ≡ codes "x," ++ front → ⊥

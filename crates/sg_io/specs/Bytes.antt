@@ -10,6 +10,6 @@ ConsumesSome old new IsSuch = (bytes : List ℕ) × Consumes old new bytes × Is
 abbrev pub IsPrefixOf : List ℕ → List ℕ → Type 0
 IsPrefixOf front bytes = (rest : List ℕ) × (front ++ rest ≡ bytes)
 
--- what is held grew by a front of the bytes
-abbrev pub AppendsFront : Option (List ℕ) → Option (List ℕ) → List ℕ → Type 0
-AppendsFront old new bytes = (front : List ℕ) × IsPrefixOf front bytes × Appends old new front
+-- what is held grew by a prefix of the bytes
+abbrev pub AppendsPrefix : Option (List ℕ) → Option (List ℕ) → List ℕ → Type 0
+AppendsPrefix old new bytes = (front : List ℕ) × IsPrefixOf front bytes × Appends old new front

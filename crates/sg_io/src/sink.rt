@@ -1,7 +1,7 @@
 ghost use Rattle.std.specs.Prelude.{◌≡◌, ◌≢◌, ◌↔◌, ℕ, List, [], ◌≤◌, Option, IfOk, OnOk, OnErr, IsErrOf};
 ghost use Rattle.std.specs.Io.{WritesAtMost};
 ghost use Rattle.std.specs.Io.KnownBytes.{WriteAppends, Appends};
-ghost use Rattle.sg_io.specs.Bytes.{AppendsFront};
+ghost use Rattle.sg_io.specs.Bytes.{AppendsPrefix};
 ghost use Rattle.sg_io.specs.Count.{Rose};
 
 /// Why bytes were not taken.
@@ -24,7 +24,7 @@ pub trait Sink {
     /// How often the sink itself has wanted memory: only a write that says so raises it, and it never falls.
     ghost wants: { Self → ℕ };
 
-    /// Takes a front of the piece, and says how many bytes of it: none exactly where the piece is empty. A write that
+    /// Takes a prefix of the piece, and says how many bytes of it: none exactly where the piece is empty. A write that
     /// is refused took no byte.
     fn write(&mut self, piece: &[u8]) -> Result<usize, SinkStop>
         ensures bound { WritesAtMost result piece.now }
@@ -38,10 +38,10 @@ pub trait Sink {
         ensures unwanted { result ≢ Err SinkStop.NoMemory → wants self.new ≡ wants self.old };
 }
 
-/// Writes all the bytes, in as many calls as it takes. After an Err the sink has taken a front of them.
+/// Writes all the bytes, in as many calls as it takes. After an Err the sink has taken a prefix of them.
 pub fn put_all<K: Sink>(sink: &mut K, bytes: &[u8]) -> Result<(), SinkStop>
     ensures ok { OnOk result (Appends (K.held sink.old) (K.held sink.new) bytes.now) }
-    ensures err { OnErr result (AppendsFront (K.held sink.old) (K.held sink.new) bytes.now) }
+    ensures err { OnErr result (AppendsPrefix (K.held sink.old) (K.held sink.new) bytes.now) }
     ensures faults_later { K.faults sink.old ≤ K.faults sink.new }
     ensures wants_later { K.wants sink.old ≤ K.wants sink.new }
     ensures failed { IsErrOf result SinkStop.Failed → Rose (K.faults sink.old) (K.faults sink.new) }

@@ -1,7 +1,7 @@
 ghost use Rattle.std.specs.Prelude.{◌≡◌, ◌≢◌, ◌↔◌, [], ◌≤◌, None, IfOk, OnErr, take};
 ghost use Rattle.std.specs.Io.{ReadsAtMost, WritesAtMost};
 ghost use Rattle.std.specs.Io.KnownBytes.{Appends, ReadConsumes};
-ghost use Rattle.sg_io.specs.Bytes.{AppendsFront};
+ghost use Rattle.sg_io.specs.Bytes.{AppendsPrefix};
 ghost use Rattle.sg_io.specs.Count.{CountsErrors};
 
 use crate::count::Count;
@@ -93,8 +93,8 @@ impl<W: Write> Sink for StdSink<W> {
         ensures bound { WritesAtMost result piece.now }
         // The writer has taken what is counted.
         ensures taken { IfOk result (λ count. Appends self.old.contents self.new.contents (take count piece.now)) }
-        // After an Err it has taken at most a front of the piece.
-        ensures lost { OnErr result (AppendsFront self.old.contents self.new.contents piece.now) }
+        // After an Err it has taken at most a prefix of the piece.
+        ensures lost { OnErr result (AppendsPrefix self.old.contents self.new.contents piece.now) }
         ensures none { IfOk result (λ count. (count ≡ 0) ↔ (piece.now ≡ [])) }
         ensures never_wants { result ≢ Err SinkStop.NoMemory }
         ensures faults_later { let faults = ⟦<StdSink<W> as Sink>⟧.faults in

@@ -5,7 +5,7 @@ use Rattle.std.proofs.lemmas.List.Elements.{Contains-append_right}
 use Rattle.std.proofs.lemmas.Option.{slice_get_within, get_or_from_slice_get}
 use Rattle.std.specs.Io.KnownBytes.{Appends}
 use Rattle.std.proofs.KnownBytes.{Appends-nil, Appends-trans}
-use Rattle.sg_io.specs.Bytes.{AppendsFront}
+use Rattle.sg_io.specs.Bytes.{AppendsPrefix}
 use Rattle.table_print.specs.Lines.{AreLines, SomeText}
 use Rattle.table_print.proofs.Lines.{one_line, lines_append, some_lines}
 
@@ -13,14 +13,14 @@ use Rattle.table_print.proofs.Lines.{one_line, lines_append, some_lines}
 take_one : {A : Type 0} (members : List A) (f : A) (i : ℕ) → slice_get members i ≡ Some f → take (i + 1) members ≡ take i members ++ f ∷ []
 take_one members f i e = take_more members i f (slice_get_within members i f e) ∙ ap (λ x. take i members ++ x ∷ []) (get_or_from_slice_get members i f f e)
 
--- a front of a text is a front of a longer one
-pub front_longer : (old new : Option (List ℕ)) (text rest : List ℕ) → AppendsFront old new text → AppendsFront old new (text ++ rest)
+-- a prefix of a text is a prefix of a longer one
+pub front_longer : (old new : Option (List ℕ)) (text rest : List ℕ) → AppendsPrefix old new text → AppendsPrefix old new (text ++ rest)
 front_longer old new text rest front =
     let more = front.1.0 in
     (front.0, (more ++ rest, sym (append_assoc front.0 more rest) ∙ ap (λ (l : List ℕ). l ++ rest) front.1.1), front.2)
 
--- a text, and a front of the next
-pub front_behind : (old mid new : Option (List ℕ)) (text next : List ℕ) → Appends old mid text → AppendsFront mid new next → AppendsFront old new (text ++ next)
+-- a text, and a prefix of the next
+pub front_behind : (old mid new : Option (List ℕ)) (text next : List ℕ) → Appends old mid text → AppendsPrefix mid new next → AppendsPrefix old new (text ++ next)
 front_behind old mid new text next first front = (text ++ front.0, (front.1.0, append_assoc text front.0 front.1.0 ∙ ap (λ (l : List ℕ). text ++ l) front.1.1), Appends-trans old mid new text front.0 first front.2)
 
 module _ {A : Type 0} (IsLine : A → List ℕ → Type 0) (members : List A) where
@@ -41,9 +41,9 @@ module _ {A : Type 0} (IsLine : A → List ℕ → Type 0) (members : List A) wh
   pub printed_more : (old mid new : Option (List ℕ)) (f : A) (line : List ℕ) (i : ℕ) → Printed old mid i → slice_get members i ≡ Some f → IsLine f line → Appends mid new line → Printed old new (i + 1)
   printed_more old mid new f line i before is p more = (before.0 ++ line, lines_one f line before.0 i is p before.1, Appends-trans old mid new before.0 line before.2 more)
 
-  -- and a front of one more
-  pub printed_front : ((x : A) → Contains members x → (line : List ℕ) × IsLine x line) → (old mid new : Option (List ℕ)) (f : A) (line : List ℕ) (i : ℕ) → Printed old mid i → slice_get members i ≡ Some f → IsLine f line → AppendsFront mid new line
-      → SomeText (Lines members) (AppendsFront old new)
+  -- and a prefix of one more
+  pub printed_front : ((x : A) → Contains members x → (line : List ℕ) × IsLine x line) → (old mid new : Option (List ℕ)) (f : A) (line : List ℕ) (i : ℕ) → Printed old mid i → slice_get members i ≡ Some f → IsLine f line → AppendsPrefix mid new line
+      → SomeText (Lines members) (AppendsPrefix old new)
   printed_front each old mid new f line i before is p more =
       let done = before.0 in
       let whole = take-append-drop (i + 1) members in

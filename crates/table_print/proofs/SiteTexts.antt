@@ -4,7 +4,7 @@ use Rattle.std.specs.Io.KnownBytes.{Appends}
 use Rattle.std.proofs.KnownBytes.{Appends-trans}
 use Rattle.exact_ops.specs.Map.{Map}
 use Rattle.exact_ops.specs.Point.{Point}
-use Rattle.sg_io.specs.Bytes.{AppendsFront}
+use Rattle.sg_io.specs.Bytes.{AppendsPrefix}
 use Rattle.triplet_text.specs.Bytes.{space, line_feed}
 use Rattle.table_print.specs.Lines.{AreLines, SomeText}
 use Rattle.table_print.specs.Sites.{counts_text, IsElementLine, IsPointLine, IsSiteText}
@@ -49,18 +49,18 @@ module _ (site : List Map) (orbit : List Point) where
   pub some_site_text : (text : List ℕ) × IsSiteText site orbit text
   some_site_text = (Counts ++ some_elements.0 ++ some_points.0, site_text some_elements.0 some_points.0 some_elements.1 some_points.1)
 
-  -- a front of the counts
-  pub front_of_counts : (old new : Option (List ℕ)) (counts : List ℕ) → counts ≡ Counts → AppendsFront old new counts → SomeText (IsSiteText site orbit) (AppendsFront old new)
+  -- a prefix of the counts
+  pub front_of_counts : (old new : Option (List ℕ)) (counts : List ℕ) → counts ≡ Counts → AppendsPrefix old new counts → SomeText (IsSiteText site orbit) (AppendsPrefix old new)
   front_of_counts old new counts is front =
       let elements = some_elements in
       let points = some_points in (
         Counts ++ elements.0 ++ points.0,
         site_text elements.0 points.0 elements.1 points.1,
-        front_longer old new (Counts ++ elements.0) points.0 (front_longer old new Counts elements.0 (subst (AppendsFront old new) is front)),
+        front_longer old new (Counts ++ elements.0) points.0 (front_longer old new Counts elements.0 (subst (AppendsPrefix old new) is front)),
       )
 
-  -- the counts, and a front of the elements
-  pub front_of_elements : (old mid new : Option (List ℕ)) (counts : List ℕ) → counts ≡ Counts → Appends old mid counts → SomeText (AreLines IsElementLine site) (AppendsFront mid new) → SomeText (IsSiteText site orbit) (AppendsFront old new)
+  -- the counts, and a prefix of the elements
+  pub front_of_elements : (old mid new : Option (List ℕ)) (counts : List ℕ) → counts ≡ Counts → Appends old mid counts → SomeText (AreLines IsElementLine site) (AppendsPrefix mid new) → SomeText (IsSiteText site orbit) (AppendsPrefix old new)
   front_of_elements old mid new counts is first front =
       let elements = front.0 in (
         Counts ++ elements ++ some_points.0,
@@ -68,9 +68,9 @@ module _ (site : List Map) (orbit : List Point) where
         front_longer old new (Counts ++ elements) some_points.0 (front_behind old mid new Counts elements (subst (Appends old mid) is first) front.2),
       )
 
-  -- the counts, the elements, and a front of the points
-  pub front_of_points : (old mid late new : Option (List ℕ)) (counts : List ℕ) → counts ≡ Counts → Appends old mid counts → SomeText (AreLines IsElementLine site) (Appends mid late) → SomeText (AreLines IsPointLine orbit) (AppendsFront late new)
-      → SomeText (IsSiteText site orbit) (AppendsFront old new)
+  -- the counts, the elements, and a prefix of the points
+  pub front_of_points : (old mid late new : Option (List ℕ)) (counts : List ℕ) → counts ≡ Counts → Appends old mid counts → SomeText (AreLines IsElementLine site) (Appends mid late) → SomeText (AreLines IsPointLine orbit) (AppendsPrefix late new)
+      → SomeText (IsSiteText site orbit) (AppendsPrefix old new)
   front_of_points old mid late new counts is first second front =
       let elements = second.0 in
       let points = front.0 in

@@ -1,7 +1,7 @@
 ghost use Rattle.std.specs.Prelude.{◌≡◌, ◌≤◌, OnOk, OnErr, IsErrOf};
 ghost use Rattle.std.specs.Io.KnownBytes.{Appends};
 ghost use Rattle.exact_ops.specs.Operator.{Operator};
-ghost use Rattle.sg_io.specs.Bytes.{AppendsFront};
+ghost use Rattle.sg_io.specs.Bytes.{AppendsPrefix};
 ghost use Rattle.sg_io.specs.Count.{Rose};
 ghost use Rattle.table_print.specs.Lines.{SomeText};
 ghost use Rattle.table_print.specs.Operators.{IsOperatorLine, AreOperatorLines};
@@ -16,7 +16,7 @@ use triplet_text::print_triplet;
 /// Err a prefix of the lines is written.
 pub fn print_ops<K: Sink>(g: &Group, sink: &mut K) -> Result<(), SinkStop>
     ensures ok { OnOk result (SomeText (AreOperatorLines g.now) (Appends (K.held sink.old) (K.held sink.new))) }
-    ensures err { OnErr result (SomeText (AreOperatorLines g.now) (AppendsFront (K.held sink.old) (K.held sink.new))) }
+    ensures err { OnErr result (SomeText (AreOperatorLines g.now) (AppendsPrefix (K.held sink.old) (K.held sink.new))) }
     ensures faults_later { K.faults sink.old ≤ K.faults sink.new }
     ensures wants_later { K.wants sink.old ≤ K.wants sink.new }
     ensures failed { IsErrOf result SinkStop.Failed → Rose (K.faults sink.old) (K.faults sink.new) }

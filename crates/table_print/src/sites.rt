@@ -2,7 +2,7 @@ ghost use Rattle.std.specs.Prelude.{◌≡◌, ◌≤◌, ◌++◌, OnOk, OnErr,
 ghost use Rattle.std.specs.Io.KnownBytes.{Appends};
 ghost use Rattle.exact_ops.specs.Numbers.{point_in};
 ghost use Rattle.exact_ops.specs.Elements.{map_in};
-ghost use Rattle.sg_io.specs.Bytes.{AppendsFront};
+ghost use Rattle.sg_io.specs.Bytes.{AppendsPrefix};
 ghost use Rattle.sg_io.specs.Count.{Rose};
 ghost use Rattle.table_print.specs.Lines.{AreLines, SomeText};
 ghost use Rattle.table_print.specs.Sites.{counts_text, IsElementLine, IsPointLine, IsSiteText};
@@ -19,7 +19,7 @@ use triplet_text::{print_frac, print_move};
 /// element, then each point of the orbit. It takes no memory. After an Err a prefix of the lines is written.
 pub fn print_site<K: Sink>(s: &Site, o: &Orbit, sink: &mut K) -> Result<(), SinkStop>
     ensures ok { OnOk result (SomeText (IsSiteText s.now o.now) (Appends (K.held sink.old) (K.held sink.new))) }
-    ensures err { OnErr result (SomeText (IsSiteText s.now o.now) (AppendsFront (K.held sink.old) (K.held sink.new))) }
+    ensures err { OnErr result (SomeText (IsSiteText s.now o.now) (AppendsPrefix (K.held sink.old) (K.held sink.new))) }
     ensures faults_later { K.faults sink.old ≤ K.faults sink.new }
     ensures wants_later { K.wants sink.old ≤ K.wants sink.new }
     ensures failed { IsErrOf result SinkStop.Failed → Rose (K.faults sink.old) (K.faults sink.new) }
@@ -32,7 +32,7 @@ pub fn print_site<K: Sink>(s: &Site, o: &Orbit, sink: &mut K) -> Result<(), Sink
 
 fn print_elements<K: Sink>(s: &Site, sink: &mut K) -> Result<(), SinkStop>
     ensures ok { OnOk result (SomeText (AreLines IsElementLine s.now) (Appends (K.held sink.old) (K.held sink.new))) }
-    ensures err { OnErr result (SomeText (AreLines IsElementLine s.now) (AppendsFront (K.held sink.old) (K.held sink.new))) }
+    ensures err { OnErr result (SomeText (AreLines IsElementLine s.now) (AppendsPrefix (K.held sink.old) (K.held sink.new))) }
     ensures faults_later { K.faults sink.old ≤ K.faults sink.new }
     ensures wants_later { K.wants sink.old ≤ K.wants sink.new }
     ensures failed { IsErrOf result SinkStop.Failed → Rose (K.faults sink.old) (K.faults sink.new) }
@@ -47,7 +47,7 @@ fn print_elements<K: Sink>(s: &Site, sink: &mut K) -> Result<(), SinkStop>
 
 fn print_points<K: Sink>(o: &Orbit, sink: &mut K) -> Result<(), SinkStop>
     ensures ok { OnOk result (SomeText (AreLines IsPointLine o.now) (Appends (K.held sink.old) (K.held sink.new))) }
-    ensures err { OnErr result (SomeText (AreLines IsPointLine o.now) (AppendsFront (K.held sink.old) (K.held sink.new))) }
+    ensures err { OnErr result (SomeText (AreLines IsPointLine o.now) (AppendsPrefix (K.held sink.old) (K.held sink.new))) }
     ensures faults_later { K.faults sink.old ≤ K.faults sink.new }
     ensures wants_later { K.wants sink.old ≤ K.wants sink.new }
     ensures failed { IsErrOf result SinkStop.Failed → Rose (K.faults sink.old) (K.faults sink.new) }

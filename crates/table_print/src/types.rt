@@ -3,7 +3,7 @@ ghost use Rattle.std.specs.Option.{option_map};
 ghost use Rattle.std.specs.Io.KnownBytes.{Appends};
 ghost use Rattle.exact_ops.specs.Operator.{Operator};
 ghost use Rattle.op_types.specs.Matrix.{column_of};
-ghost use Rattle.sg_io.specs.Bytes.{AppendsFront};
+ghost use Rattle.sg_io.specs.Bytes.{AppendsPrefix};
 ghost use Rattle.sg_io.specs.Count.{Rose};
 ghost use Rattle.table_print.specs.Lines.{SomeText};
 ghost use Rattle.table_print.specs.Types.{IsTypeLine, AreTypeLines, kind_text, part_text, numbers_text, axis_text};
@@ -21,7 +21,7 @@ use triplet_text::{print_frac, print_triplet};
 /// written.
 pub fn print_types<K: Sink>(g: &Group, sink: &mut K) -> Result<(), SinkStop>
     ensures ok { OnOk result (SomeText (AreTypeLines g.now) (Appends (K.held sink.old) (K.held sink.new))) }
-    ensures err { OnErr result (SomeText (AreTypeLines g.now) (AppendsFront (K.held sink.old) (K.held sink.new))) }
+    ensures err { OnErr result (SomeText (AreTypeLines g.now) (AppendsPrefix (K.held sink.old) (K.held sink.new))) }
     ensures faults_later { K.faults sink.old ≤ K.faults sink.new }
     ensures wants_later { K.wants sink.old ≤ K.wants sink.new }
     ensures failed { IsErrOf result SinkStop.Failed → Rose (K.faults sink.old) (K.faults sink.new) }
