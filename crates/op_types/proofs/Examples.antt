@@ -36,7 +36,7 @@ screw_twice = refl
 
 screw_part : IsIntrinsicPart screw (column o o (pos 2)) (pos 3)
 unfolding sum_of_powers power times ◌·◌ ◌+ᵐ◌ ◌·ᶜ◌
-screw_part = record { order = 3; is_order = its_order; equal = refl }
+screw_part = record { positive = omega (arith, ints); order = 3; is_order = its_order; equal = refl }
 
 -- and not -1/3, which is the same modulo the cell
 not_screw_part : IsIntrinsicPart screw (column o o minus) (pos 3) → ⊥

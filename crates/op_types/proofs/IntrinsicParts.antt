@@ -15,6 +15,7 @@ denominator k x e l = omega (arith, ints)
 
 pub intrinsic_part : (f : Operator) (w s : Matrix) (n t : Column) (k : ℕ) (d : ℤ) → w ≡ f.w → t ≡ f.t → IsOrder w k → s ≡ sum_of_powers w k → n ≡ s ·ᶜ t → d ≡ pos (UNIT * k) → IsIntrinsicPart f n d
 intrinsic_part f w s n t k d e q o p r h = record {
+  positive = let l = o.positive in omega (arith, ints, h);
   order = k;
   is_order = subst (λ m. IsOrder m k) e o;
   equal = ap₂ (λ a c. times a c) (sym h) (r ∙ ap₂ (λ m c. m ·ᶜ c) (p ∙ ap (λ m. sum_of_powers m k) e) q);

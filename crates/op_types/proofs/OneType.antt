@@ -12,17 +12,10 @@ use Rattle.lattice_algebra.proofs.Numbers.{positive_or_not, cancel_some}
 use Rattle.op_types.specs.ProperPart.{IsProperPart, opposite}
 use Rattle.op_types.specs.IntrinsicPart.{IsIntrinsicPart}
 use Rattle.op_types.specs.Axis.{IsAxis}
-use Rattle.op_types.specs.Types.{OperationType, HasAxis, IsTypeOf}
+use Rattle.op_types.specs.Types.{OperationType, AgreeInType, HasAxis, IsTypeOf}
 use Rattle.op_types.proofs.Directions.{leading, leading_times, directed_leading}
 use Rattle.op_types.proofs.Divisors.{whole_divisor}
 use Rattle.op_types.proofs.FixedColumns.{some_order}
-
--- two types that say the same: the intrinsic parts are equal as fractions
-pub record AgreeInType (s t : OperationType) : Type 0 where
-  pub order : s.order ≡ t.order
-  pub proper : s.proper ≡ t.proper
-  pub part : times s.denominator t.part ≡ times t.denominator s.part
-  pub axis : s.axis ≡ t.axis
 
 -- ---- the handedness
 

@@ -1,5 +1,5 @@
 -- An operation, as often as the order of its matrix says, is the translation by so many times its intrinsic part.
-use Rattle.std.proofs.Common.{◌≡◌, ◌↔◌, ℕ, zero, suc, ◌*◌, ℤ, pos, ap, sym, subst, ◌∙◌, refl, arith}
+use Rattle.std.proofs.Common.{◌<ℤ◌, ◌≡◌, ◌↔◌, ℕ, zero, suc, ◌*◌, ℤ, pos, ap, sym, subst, ◌∙◌, refl, arith}
 use Rattle.std.proofs.lemmas.Int.{ints}
 use Rattle.lattice_algebra.specs.Matrix.{Matrix, Column, ◌·◌, ◌·ᶜ◌, times, identity}
 use Rattle.lattice_algebra.specs.Operator.{Operator}
@@ -37,11 +37,11 @@ returned f k o = ap (λ (g : Map). g.w) (repeats f k) ∙ o.returns
 shift : (f : Operator) (k : ℕ) → (repeated (map_of f) k).s ≡ sum_of_powers f.w k ·ᶜ f.t
 shift f k = ap (λ (g : Map). g.s) (repeats f k)
 
-pub translated : (f : Operator) (n : Column) (d : ℤ) (k : ℕ) → IsOrder f.w k → IsIntrinsicPart f n d ↔ (times d (repeated (map_of f) k).s ≡ times (pos (UNIT * k)) n)
-translated f n d k o = (
+pub translated : (f : Operator) (n : Column) (d : ℤ) (k : ℕ) → pos 0 <ℤ d → IsOrder f.w k → IsIntrinsicPart f n d ↔ (times d (repeated (map_of f) k).s ≡ times (pos (UNIT * k)) n)
+translated f n d k p o = (
   λ h. subst (λ j. times d (repeated (map_of f) k).s ≡ times (pos (UNIT * j)) n) (same_order f.w h.order k h.is_order o)
       (ap (times d) (shift f k ∙ ap (λ j. sum_of_powers f.w j ·ᶜ f.t) (sym (same_order f.w h.order k h.is_order o))) ∙ sym h.equal),
-  λ e. record { order = k; is_order = o; equal = sym e ∙ ap (times d) (shift f k) },
+  λ e. record { positive = p; order = k; is_order = o; equal = sym e ∙ ap (times d) (shift f k) },
 )
 
 pub fixed : (f : Operator) (n : Column) (d : ℤ) → IsIntrinsicPart f n d → f.w ·ᶜ n ≡ n

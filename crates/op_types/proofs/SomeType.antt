@@ -130,7 +130,7 @@ positive_denominator : (k : ℕ) → 0 < k → pos 0 <ℤ pos (UNIT * k)
 positive_denominator k l = omega (arith, ints)
 
 intrinsic : (f : Operator) (k : ℕ) → IsOrder f.w k → IsIntrinsicPart f (sum_of_powers f.w k ·ᶜ f.t) (pos (UNIT * k))
-intrinsic f k o = record { order = k; is_order = o; equal = refl }
+intrinsic f k o = record { positive = positive_denominator k o.positive; order = k; is_order = o; equal = refl }
 
 -- P is the one proper part, and its handedness is told
 typed : (f : Operator) (p : Matrix) (proper : Bool) → HasSmallPowers f.w → HasSmallPowers p → IsTrue proper ↔ IsProper f.w → ((q : Matrix) → IsProperPart f.w q → q ≡ p) → (t : OperationType) × IsTypeOf f t
@@ -142,7 +142,6 @@ typed f p proper small small_part handed same =
       record {
         handedness = handed;
         order = λ q h. subst (λ m. IsOrder m o.0) (sym (same q h)) o.1;
-        positive = positive_denominator whole.0 whole.1.positive;
         part = intrinsic f whole.0 whole.1;
         axis = λ q h. subst (λ m. HasAxis m a.0) (sym (same q h)) a.1;
       },

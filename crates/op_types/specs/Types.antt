@@ -1,6 +1,6 @@
 -- What the types of operators are, all three answers together.
-use Rattle.std.specs.Prelude.{◌↔◌, IsTrue, Bool, ℕ, ℤ, pos, ◌<ℤ◌, Option, Some, None}
-use Rattle.lattice_algebra.specs.Matrix.{Matrix, Column}
+use Rattle.std.specs.Prelude.{◌≡◌, ◌↔◌, IsTrue, Bool, ℕ, ℤ, Option, Some, None}
+use Rattle.lattice_algebra.specs.Matrix.{Matrix, Column, times}
 use Rattle.lattice_algebra.specs.Operator.{Operator}
 use Rattle.lattice_algebra.specs.Powers.{IsOrder}
 use Rattle.op_types.specs.ProperPart.{IsProper, IsProperPart}
@@ -24,6 +24,12 @@ HasAxis p None = IsLine p → ⊥
 pub record IsTypeOf (f : Operator) (t : OperationType) : Type 0 where
   pub handedness : IsTrue t.proper ↔ IsProper f.w
   pub order : (p : Matrix) → IsProperPart f.w p → IsOrder p t.order
-  pub positive : pos 0 <ℤ t.denominator
   pub part : IsIntrinsicPart f t.part t.denominator
   pub axis : (p : Matrix) → IsProperPart f.w p → HasAxis p t.axis
+
+-- both types say the same: the fractions have equal values
+pub record AgreeInType (s t : OperationType) : Type 0 where
+  pub order : s.order ≡ t.order
+  pub proper : s.proper ≡ t.proper
+  pub part : times s.denominator t.part ≡ times t.denominator s.part
+  pub axis : s.axis ≡ t.axis

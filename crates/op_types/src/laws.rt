@@ -1,4 +1,4 @@
-ghost use Rattle.std.specs.Prelude.{◌≡◌, ◌↔◌, ◌*◌, ℕ, ℤ, pos, List, length};
+ghost use Rattle.std.specs.Prelude.{◌≡◌, ◌↔◌, ◌*◌, ℕ, ℤ, pos, ◌<ℤ◌, List, length};
 ghost use Rattle.std.specs.Int.{◌∣◌};
 ghost use Rattle.std.specs.List.{Contains};
 ghost use Rattle.lattice_algebra.specs.Matrix.{Matrix, Column, ◌·ᶜ◌, times, identity};
@@ -9,6 +9,7 @@ ghost use Rattle.exact_ops.specs.declared.TheConstants.{UNIT};
 ghost use Rattle.group_closure.specs.GroupList.{IsGroup};
 ghost use Rattle.op_types.specs.IntrinsicPart.{IsIntrinsicPart, repeated};
 ghost use Rattle.op_types.specs.ProperPart.{IsProperPart};
+ghost use Rattle.op_types.specs.Types.{OperationType, IsTypeOf, AgreeInType};
 
 /// The order of the rotation part W of a member divides the order of the group: its number of members.
 pub fn order_divides_length()
@@ -25,6 +26,12 @@ pub fn proper_order_divides_length()
 /// reflection in its plane.
 pub fn intrinsic_part_of_a_power()
     ensures turned { (f : Operator) (k : ℕ) → IsOrder f.w k → (repeated (map_of f) k).w ≡ identity }
-    ensures translation { (f : Operator) (n : Column) (d : ℤ) (k : ℕ) → IsOrder f.w k → IsIntrinsicPart f n d ↔ (times d (repeated (map_of f) k).s ≡ times (pos (UNIT * k)) n) }
+    ensures translation { (f : Operator) (n : Column) (d : ℤ) (k : ℕ) → pos 0 <ℤ d → IsOrder f.w k → IsIntrinsicPart f n d ↔ (times d (repeated (map_of f) k).s ≡ times (pos (UNIT * k)) n) }
     ensures fixed { (f : Operator) (n : Column) (d : ℤ) → IsIntrinsicPart f n d → f.w ·ᶜ n ≡ n }
+{}
+
+/// Each member of a group has a type, and no operator has two: the fractions agree as values.
+pub fn one_type()
+    ensures some { (members : List Operator) (f : Operator) → IsGroup members → Contains members f → (t : OperationType) × IsTypeOf f t }
+    ensures one { (f : Operator) (s t : OperationType) → IsTypeOf f s → IsTypeOf f t → AgreeInType s t }
 {}

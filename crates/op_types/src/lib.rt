@@ -16,7 +16,9 @@ mod vector;
 pub use axes::axis;
 pub use intrinsic_part::{Frac3, intrinsic};
 pub use kinds::kind;
-pub use laws::{intrinsic_part_of_a_power, order_divides_length, proper_order_divides_length};
+pub use laws::{
+    intrinsic_part_of_a_power, one_type, order_divides_length, proper_order_divides_length,
+};
 
 #[cfg(test)]
 mod tests;

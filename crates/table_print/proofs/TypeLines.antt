@@ -65,16 +65,15 @@ type_of order proper n d axis = record { order = order; proper = proper; part = 
 
 pub is_type_of : (members : List Operator) (i : ℕ) (f : Operator) (order : ℕ) (proper : Bool) (n : List ℤ) (d : ℤ) (axis : Option (List ℤ)) → slice_get members i ≡ Some f
     → IfSome (slice_get members i) (λ (f : Operator). IsTrue proper ↔ IsProper f.w) → IfSome (slice_get members i) (λ (f : Operator). (p : Matrix) → IsProperPart f.w p → IsOrder p order)
-    → pos 0 <ℤ d → IfSome (slice_get members i) (λ (f : Operator). IsIntrinsicPart f (column_of n) d)
+    → IfSome (slice_get members i) (λ (f : Operator). IsIntrinsicPart f (column_of n) d)
     → IfSome (slice_get members i) (λ (f : Operator). (p : Matrix) → IsProperPart f.w p → (IsSome axis ↔ IsLine p)) → IfSome (slice_get members i) (λ (f : Operator). (p : Matrix) → IsProperPart f.w p → IfSome axis (λ a. IsAxis p (column_of a)))
     → IsTypeOf f (type_of order proper n d axis)
-is_type_of members i f order proper n d axis is handed turns positive part some value =
+is_type_of members i f order proper n d axis is handed turns part some value =
     let line = at_member _ members i f is some in
     let along = at_member _ members i f is value in
     record {
       handedness = at_member _ members i f is handed;
       order = at_member _ members i f is turns;
-      positive = positive;
       part = at_member _ members i f is part;
       axis = λ p h. has_axis p axis (line p h) (along p h);
     }
@@ -100,7 +99,7 @@ one_type_line f l m p q =
     let s = p.0 in
     let t = q.0 in
     let a = one_type f s t p.1 q.1 in
-    p.2 ∙ same_line f s t (ap₂ kind_text a.order a.proper) (same_part s.part t.part s.denominator t.denominator p.1.positive q.1.positive a.part) a.axis ∙ sym q.2
+    p.2 ∙ same_line f s t (ap₂ kind_text a.order a.proper) (same_part s.part t.part s.denominator t.denominator p.1.part.positive q.1.part.positive a.part) a.axis ∙ sym q.2
 
 pub some_type_line : (members : List Operator) (f : Operator) → IsGroup members → Contains members f → (line : List ℕ) × IsTypeLine f line
 some_type_line members f g c =
