@@ -16,20 +16,20 @@ use Rattle.lattice_algebra.proofs.Maps.{map_path, map_eq-is, shift_of, identity-
 use Rattle.lattice_algebra.proofs.Operators.{operators}
 use Rattle.lattice_algebra.proofs.Examples.{column, minus, inversion, inverting, both, in_both, closed_list, some_parts}
 use Rattle.finite_groups.proofs.Members as lists
-use Rattle.space_groups.specs.Space.{IsElement, IsInSite, AreConjugate, HaveSameElement, ScaledPoint, moved}
+use Rattle.space_groups.specs.Space.{IsElement, IsInSite, AreConjugate, HaveSameElement, IsMembers, ScaledPoint, moved}
 use Rattle.space_groups.specs.Lists.{IsSiteList}
 use Rattle.space_groups.specs.Averages.{Block, block_of, block_plus, block_times, block_scaled, IsMean, IsInImage}
 use Rattle.space_groups.specs.Keys.{Key, carried, key_of, IsBelow, ComesBefore, IsKey}
 use Rattle.space_groups.specs.Regions.{Sizes}
 use Rattle.space_groups.specs.Rows.{row_point, Lies, Row, Fits, IsRowBefore, IsTable, IsSpecial, IsRowList}
-use Rattle.space_groups.specs.Search.{IsSub, IsFull, Kept, IsKept, IsDone, IsSearch, IsMembers, row_of}
+use Rattle.space_groups.specs.Search.{IsSub, IsFull, Kept, IsKept, IsDone, IsSearch, row_of}
 use Rattle.space_groups.proofs.ScaledPoints.{moved-identity}
 use Rattle.space_groups.proofs.Elements.{SpaceGroup, space}
 use Rattle.space_groups.proofs.Blocks.{block_path, times_identity, block_of-∘}
-use Rattle.space_groups.proofs.Near.{carried_scaled}
+use Rattle.space_groups.proofs.CarriedLists.{carried_scaled}
 use Rattle.space_groups.proofs.Means as means
 use Rattle.space_groups.proofs.Means.{Averaged}
-use Rattle.space_groups.proofs.Search.{closed_sub}
+use Rattle.space_groups.proofs.FinishedSearch.{closed_sub}
 use Rattle.space_groups.proofs.Divided.{one_rotation}
 use Rattle.space_groups.proofs.Carried.{carried-identity}
 use Rattle.space_groups.proofs.Ordered.{not_before_itself, row_not_itself, row_on, one_row_list}
