@@ -1,10 +1,9 @@
-ghost use Rattle.std.specs.Prelude.{◌≡◌, ◌≢◌, ◌⊎◌, ◌↔◌, ◌+◌, ◌≤◌, List, ℕ, IfSome, length, OnOk, OnErr, IsErrOf};
+ghost use Rattle.std.specs.Prelude.{◌≡◌, ◌≢◌, ◌⊎◌, ◌↔◌, ◌+◌, ◌≤◌, IfSome, length, IsErrOf};
 ghost use Rattle.std.specs.Io.KnownBytes.{Appends, IsAtEnd};
 ghost use Rattle.sg_io.specs.Bytes.{AppendsPrefix, ConsumesSome};
 ghost use Rattle.sg_io.specs.Count.{Rose};
-ghost use Rattle.table_print.specs.Lines.{SomeText};
 ghost use Rattle.sg_cli.specs.declared.fault.Fault.{Fault};
-ghost use Rattle.sg_cli.specs.Answer.{Answer, IsAnswer, IsTextFor};
+ghost use Rattle.sg_cli.specs.Answer.{IsTextFor};
 ghost use Rattle.sg_cli.specs.Fault.{status_of, text_of};
 ghost use Rattle.sg_cli.specs.Run.{IsDecided, IsRefusal, IsReadToEnd, before_writing, HasStatus, IfPrinted, IfRefused, IsTold, Completes};
 ghost use Rattle.sg_cli.specs.Steps.{Prints, Answers, Serves};
@@ -20,12 +19,6 @@ use site_symmetry::site;
 use std::alloc::Global;
 use table_print::{print_ops, print_site, print_types};
 use triplet_text::read_lines;
-
-/// Words and bytes have one answer at most.
-pub fn answer_is_unique()
-    ensures { (words : List (List ℕ)) (bytes : List ℕ) (a b : Answer)
-        → IsAnswer words bytes a → IsAnswer words bytes b → a ≡ b }
-{}
 
 /// Prints the answer to the command, where there is one. All memory is taken before the first byte is written.
 fn print_answer<K: Sink>(

@@ -4,10 +4,12 @@
 
 mod answer;
 mod fault;
+mod laws;
 mod words;
 
-pub use answer::{answer_is_unique, run, tell};
+pub use answer::{run, tell};
 pub use fault::Fault;
+pub use laws::answer_is_unique;
 pub use table_print::Line;
 pub use words::{Command, read_words};
 

@@ -1,5 +1,5 @@
 use Rattle.sg_cli.proofs.Unique.{one_answer}
-use Rattle.sg_cli.proofs.answer.answer_is_unique.Goals as goal
+use Rattle.sg_cli.proofs.laws.answer_is_unique.Goals as goal
 
 pub returns : goal.returns
 returns c = one_answer
