@@ -1,4 +1,4 @@
-ghost use Rattle.std.specs.Prelude.{◌≡◌, ◌≤◌, ◌*◌, ◌↔◌, IsTrue, IsSome, IfSome, IsOk, IfOk, IsErrOf, unsigned_abs};
+ghost use Rattle.std.specs.Prelude.{◌≡◌, ◌*◌, ◌↔◌, IsSome, IfSome, IsOk, IfOk, IsErrOf};
 ghost use Rattle.lattice_algebra.specs.Matrix.{entries, coordinates, matrix_of, column_of, IsUnimodular, ◌·◌};
 ghost use Rattle.lattice_algebra.specs.Operator.{Operator, identity_operator, product, IsInverse, AreWithin, HasEntriesWithin};
 ghost use Rattle.lattice_algebra.specs.Map.{map_of, ◌∘◌, IsShift};
@@ -9,7 +9,6 @@ ghost use Rattle.exact_ops.specs.Raw.{numbers_of};
 ghost use Rattle.exact_ops.specs.Points.{point_with};
 ghost use Rattle.exact_ops.specs.Numbers.{point_in};
 ghost use Rattle.exact_ops.specs.Moves.{map_with, IsShiftInRange};
-ghost use Rattle.exact_ops.specs.Fields.{matrix_in, column_in};
 
 use crate::UNIT;
 use crate::image::{image_coordinate, shift_coordinate};

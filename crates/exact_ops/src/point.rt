@@ -1,4 +1,4 @@
-ghost use Rattle.std.specs.Prelude.{◌≡◌, ◌↔◌, ◌≤◌, ◌*◌, ◌^◌, ℤ, pos, ◌*ℤ◌, ◌≤ℤ◌, unsigned_abs, IsSome, IfSome, IsTrue};
+ghost use Rattle.std.specs.Prelude.{◌≡◌, ◌↔◌, ◌≤◌, ◌*◌, ◌^◌, ℤ, pos, ◌*ℤ◌, unsigned_abs, IsSome, IfSome, IsTrue};
 ghost use Rattle.exact_ops.specs.Points.{point_with, IsPointInRange, IsCoordinateInRange, AreCoordinatesInRange, HasCoordinates};
 
 use crate::{MAX_COORDINATE, MAX_DENOMINATOR, UNIT};

@@ -1,4 +1,4 @@
-ghost use Rattle.std.specs.Prelude.{◌≡◌, ◌≤◌, ◌<◌, ◌*◌, ◌+◌, ℕ};
+ghost use Rattle.std.specs.Prelude.{◌≡◌, ◌≤◌, ◌*◌, ◌+◌};
 ghost use Rattle.lattice_algebra.specs.Matrix.{◌+ᵐ◌};
 ghost use Rattle.lattice_algebra.specs.Operator.{HasEntriesWithin};
 ghost use Rattle.lattice_algebra.specs.Powers.{IsOrder, sum_of_powers};

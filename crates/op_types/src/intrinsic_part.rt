@@ -1,4 +1,4 @@
-ghost use Rattle.std.specs.Prelude.{◌≡◌, ◌<◌, ◌≤◌, ◌*◌, ◌-◌, pos, ◌<ℤ◌, IfSome, length, slice_get};
+ghost use Rattle.std.specs.Prelude.{◌≡◌, ◌<◌, ◌*◌, ◌-◌, pos, ◌<ℤ◌, IfSome, length, slice_get};
 ghost use Rattle.lattice_algebra.specs.Matrix.{column_of, sum_of_products, ◌·ᶜ◌};
 ghost use Rattle.lattice_algebra.specs.Operator.{Operator, AreWithin, HasEntriesWithin};
 ghost use Rattle.exact_ops.specs.declared.TheConstants.{UNIT as PARTS};

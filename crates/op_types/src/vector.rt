@@ -1,4 +1,4 @@
-ghost use Rattle.std.specs.Prelude.{◌≡◌, ◌≢◌, ◌≤◌, ◌↔◌, ◌*◌, ℕ, ℤ, pos, ◌<ℤ◌, ◌*ℤ◌, unsigned_abs, IsTrue};
+ghost use Rattle.std.specs.Prelude.{◌≡◌, ◌≢◌, ◌≤◌, ◌↔◌, ◌*◌, ℤ, pos, ◌<ℤ◌, ◌*ℤ◌, unsigned_abs, IsTrue};
 ghost use Rattle.std.specs.Int.{◌∣◌};
 ghost use Rattle.lattice_algebra.specs.Matrix.{Column, column_of, coordinates, times, origin};
 ghost use Rattle.lattice_algebra.specs.Operator.{AreWithin};

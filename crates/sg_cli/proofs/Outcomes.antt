@@ -21,7 +21,7 @@ use Rattle.sg_cli.specs.declared.fault.Fault.TheVariants as fault
 use Rattle.sg_cli.specs.Fault.{status_of, fault_of_close}
 use Rattle.sg_cli.specs.Answer.{Printed, Refused, IsAnswer, IsTextFor}
 use Rattle.sg_cli.specs.Run.{before_writing, HasStatus, IsTold, Completes}
-use Rattle.sg_cli.specs.Streams.{SeenSource, SeenSink}
+use Rattle.sg_io.specs.Streams.{SeenSource, SeenSink}
 use Rattle.sg_cli.specs.Steps.{Prints, Answers, Serves}
 use Rattle.sg_cli.proofs.Unique.{one_answer}
 

@@ -6,7 +6,7 @@ use Rattle.sg_io.specs.Bytes.{AppendsPrefix}
 use Rattle.table_print.specs.Lines.{SomeText}
 use Rattle.sg_cli.specs.declared.fault.Fault.{Fault}
 use Rattle.sg_cli.specs.Answer.{Answer, Printed, Refused, IsAnswer, status_of_answer}
-use Rattle.sg_cli.specs.Streams.{SeenSink}
+use Rattle.sg_io.specs.Streams.{SeenSink}
 
 -- the words and the bytes decide this status: it is neither a fault of reading or writing nor want of memory
 abbrev pub IsDecided : ℕ → Type 0

@@ -11,7 +11,7 @@ use Rattle.sg_cli.specs.declared.words.Command.{Command}
 use Rattle.sg_cli.specs.Words.{IsNoCommand}
 use Rattle.sg_cli.specs.Answer.{Printed, Refused, IsAnswerTo}
 use Rattle.sg_cli.specs.Run.{IfPrinted, IfRefused}
-use Rattle.sg_cli.specs.Streams.{SeenSource, SeenSink}
+use Rattle.sg_io.specs.Streams.{SeenSource, SeenSink}
 
 -- the answer to the command is a text with this property
 abbrev pub PrintsSuch : Command → List ℕ → (List ℕ → Type 0) → Type 0

@@ -1,4 +1,4 @@
-ghost use Rattle.std.specs.Prelude.{◌≡◌, IfSome, IfNone};
+ghost use Rattle.std.specs.Prelude.{IfSome, IfNone};
 ghost use Rattle.exact_ops.specs.Point as rational;
 ghost use Rattle.exact_ops.specs.Points.{point_with};
 ghost use Rattle.sg_cli.specs.Words.{IsCommand, IsNoCommand, ArePointTexts, texts};

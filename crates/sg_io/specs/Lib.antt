@@ -2,3 +2,4 @@ pub mod Bytes
 pub mod Count
 pub mod Memory
 pub mod Writer
+pub mod Streams

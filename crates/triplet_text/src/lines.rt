@@ -1,4 +1,4 @@
-ghost use Rattle.std.specs.Prelude.{◌≡◌, ◌==◌, ◌∷◌, [], ◌+◌, ◌<◌, ◌≤◌, ◌^◌, MatchOption, OnOk, IfOk, IfErr, length, position};
+ghost use Rattle.std.specs.Prelude.{◌≡◌, ◌==◌, ◌∷◌, [], ◌+◌, ◌<◌, ◌^◌, MatchOption, OnOk, IfOk, IfErr, length, position};
 ghost use Rattle.triplet_text.specs.Bytes.{line_feed};
 ghost use Rattle.triplet_text.specs.Pieces.{is_skipped};
 ghost use Rattle.triplet_text.specs.Lines.{lines_of, AreRead, AddsRead, IsFaultAt, IsFaultOf};

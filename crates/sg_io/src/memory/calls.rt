@@ -1,4 +1,4 @@
-ghost use Rattle.std.specs.Prelude.{◌≡◌, ◌↔◌, ℕ, ◌≤◌, IfOk, IsErr, IsTrue, Contains};
+ghost use Rattle.std.specs.Prelude.{◌≡◌, ◌↔◌, ◌≤◌, IfOk, IsErr, IsTrue, Contains};
 ghost use Rattle.sg_io.specs.Count.{CountsErrors, raised};
 ghost use Rattle.sg_io.specs.Memory.{NumberedCalls};
 
