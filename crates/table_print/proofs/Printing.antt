@@ -1,10 +1,17 @@
 -- Lines that are written one by one.
-use Rattle.std.proofs.Common.{◌≡◌, ℕ, ◌+◌, ◌≤◌, List, [], ◌∷◌, ◌++◌, length, take, drop, Option, Some, slice_get, Contains, sym, ap, subst, ◌∙◌, append_assoc, take-append-drop}
-use Rattle.std.proofs.lemmas.List.{take_all, take_more}
+use Rattle.std.proofs.Common.{◌≡◌, ℕ, ◌+◌, ◌≤◌, List, [], ◌∷◌, ◌++◌, take, drop, Option, Some, slice_get, Contains, arith, sym, ap, subst, ◌∙◌, append_assoc, take-append-drop}
+use Rattle.std.proofs.lemmas.List.{take_more}
 use Rattle.std.proofs.lemmas.List.Elements.{Contains-append_right}
 use Rattle.std.proofs.lemmas.Option.{slice_get_within, get_or_from_slice_get}
 use Rattle.std.specs.Io.KnownBytes.{Appends}
 use Rattle.std.proofs.KnownBytes.{Appends-nil, Appends-trans}
+use Rattle.std.specs.Prelude.{Result, Err, IsErrOf}
+use Rattle.std.proofs.lemmas.Result.{on_ok_weaker, on_err_weaker}
+use Rattle.sg_io.specs.declared.sink.SinkStop.{SinkStop}
+use Rattle.sg_io.specs.declared.sink.SinkStop.TheVariants.{Failed, NoMemory}
+use Rattle.sg_io.specs.Count.{Rose}
+use Rattle.sg_io.specs.Streams.{SeenSink}
+use Rattle.table_print.specs.Printing.{Prints}
 use Rattle.sg_io.specs.Bytes.{AppendsPrefix}
 use Rattle.table_print.specs.Lines.{AreLines, SomeText}
 use Rattle.table_print.proofs.Lines.{one_line, lines_append, some_lines}
@@ -54,6 +61,56 @@ module _ {A : Type 0} (IsLine : A → List ℕ → Type 0) (members : List A) wh
         front_longer old new (done ++ line) later.0 (front_behind old mid new done line before.2 more),
       )
 
-  -- the lines of all members
-  pub printed_all : (old new : Option (List ℕ)) (i : ℕ) → length members ≤ i → Printed old new i → SomeText (Lines members) (Appends old new)
-  printed_all old new i l p = subst (λ xs. SomeText (Lines xs) (Appends old new)) (take_all i members l) p
+-- ---- what is done to the sink
+
+module _ {K : Type 0} (sink : SeenSink K) where
+  open sink use {held, faults, wants}
+
+  -- a count that rose after it stood at least here rose from here
+  rose_from : (a b c : ℕ) → a ≤ b → Rose b c → Rose a c
+  rose_from a b c l h = omega (arith, h)
+
+  module _ {IsText : List ℕ → Type 0} where
+    -- a write stopped within such a text
+    pub prints_stopped : (old new : K) (stop : SinkStop) → SomeText IsText (AppendsPrefix (held old) (held new)) → faults old ≤ faults new → wants old ≤ wants new
+        → (IsErrOf {T = Unit {0}} (Err stop) Failed → Rose (faults old) (faults new)) → (IsErrOf {T = Unit {0}} (Err stop) NoMemory → Rose (wants old) (wants new)) → Prints sink IsText old new (Err stop)
+    prints_stopped old new stop front f w failed no_memory = record { ok = tt; err = front; faults_later = f; wants_later = w; failed = failed; no_memory = no_memory }
+
+    -- behind a part that the sink took
+    module _ {IsRest : List ℕ → Type 0} (old mid new : K) (f : faults old ≤ faults mid) (w : wants old ≤ wants mid) (front : SomeText IsRest (AppendsPrefix (held mid) (held new)) → SomeText IsText (AppendsPrefix (held old) (held new))) where
+      pub stopped_behind : (stop : SinkStop) → Prints sink IsRest mid new (Err stop) → Prints sink IsText old new (Err stop)
+      stopped_behind stop p = prints_stopped old new stop (front p.err) (omega (arith, p.faults_later)) (omega (arith, p.wants_later)) (λ e. rose_from _ (faults mid) _ f (p.failed e)) (λ e. rose_from _ (wants mid) _ w (p.no_memory e))
+
+      pub prints_behind : (result : Result (Unit {0}) SinkStop) → (SomeText IsRest (Appends (held mid) (held new)) → SomeText IsText (Appends (held old) (held new))) → Prints sink IsRest mid new result → Prints sink IsText old new result
+      prints_behind result whole p = record {
+        ok = on_ok_weaker result whole p.ok;
+        err = on_err_weaker result front p.err;
+        faults_later = omega (arith, p.faults_later);
+        wants_later = omega (arith, p.wants_later);
+        failed = λ e. rose_from _ (faults mid) _ f (p.failed e);
+        no_memory = λ e. rose_from _ (wants mid) _ w (p.no_memory e);
+      }
+
+  module _ {A : Type 0} (IsLine : A → List ℕ → Type 0) (members : List A) where
+    -- the lines of the first i members are printed
+    pub record SoFar (old now : K) (i : ℕ) : Type 0 where
+      pub printed : Printed IsLine members (held old) (held now) i
+      pub faults_later : faults old ≤ faults now
+      pub wants_later : wants old ≤ wants now
+
+    pub so_far_none : (old : K) → SoFar old old 0
+    so_far_none old = record { printed = printed_none IsLine members (held old); faults_later = omega arith; wants_later = omega arith }
+
+    module _ (old mid new : K) (f : A) (line : List ℕ) (i : ℕ) (before : SoFar old mid i) (is : slice_get members i ≡ Some f) (p : IsLine f line) (later : faults mid ≤ faults new) (wanted : wants mid ≤ wants new) where
+      pub so_far_more : Appends (held mid) (held new) line → SoFar old new (i + 1)
+      so_far_more more = record {
+        printed = printed_more IsLine members (held old) (held mid) (held new) f line i before.printed is p more;
+        faults_later = omega (arith, before.faults_later);
+        wants_later = omega (arith, before.wants_later);
+      }
+
+      pub stopped : ((x : A) → Contains members x → (line : List ℕ) × IsLine x line) → (stop : SinkStop) → AppendsPrefix (held mid) (held new) line → (IsErrOf {T = Unit {0}} (Err stop) Failed → Rose (faults mid) (faults new)) → (IsErrOf {T = Unit {0}} (Err stop) NoMemory → Rose (wants mid) (wants new))
+          → Prints sink (AreLines IsLine members) old new (Err stop)
+      stopped each stop front failed no_memory =
+          prints_stopped old new stop (printed_front IsLine members each (held old) (held mid) (held new) f line i before.printed is p front) (omega (arith, before.faults_later)) (omega (arith, before.wants_later))
+          (λ e. rose_from _ (faults mid) _ before.faults_later (failed e)) (λ e. rose_from _ (wants mid) _ before.wants_later (no_memory e))

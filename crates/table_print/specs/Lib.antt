@@ -2,3 +2,4 @@ pub mod Lines
 pub mod Operators
 pub mod Types
 pub mod Sites
+pub mod Printing

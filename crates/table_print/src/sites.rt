@@ -1,10 +1,8 @@
-ghost use Rattle.std.specs.Prelude.{◌≡◌, ◌≤◌, OnOk, OnErr, IsErrOf};
-ghost use Rattle.std.specs.Io.KnownBytes.{Appends};
+ghost use Rattle.std.specs.Prelude.{◌≡◌};
 ghost use Rattle.exact_ops.specs.Numbers.{point_in};
 ghost use Rattle.exact_ops.specs.Elements.{map_in};
-ghost use Rattle.sg_io.specs.Bytes.{AppendsPrefix};
-ghost use Rattle.sg_io.specs.Count.{Rose};
-ghost use Rattle.table_print.specs.Lines.{AreLines, SomeText};
+ghost use Rattle.table_print.specs.Printing.{Prints};
+ghost use Rattle.table_print.specs.Lines.{AreLines};
 ghost use Rattle.table_print.specs.Sites.{counts_text, IsElementLine, IsPointLine, IsSiteText};
 
 use crate::line::Line;
@@ -18,12 +16,7 @@ use triplet_text::{print_frac, print_move};
 /// Writes the lines of the command `site`: the order of a site-symmetry group and the multiplicity of its point, then each
 /// element, then each point of the orbit. It takes no memory. After an Err a prefix of the lines is written.
 pub fn print_site<K: Sink>(s: &Site, o: &Orbit, sink: &mut K) -> Result<(), SinkStop>
-    ensures ok { OnOk result (SomeText (IsSiteText s.now o.now) (Appends (K.held sink.old) (K.held sink.new))) }
-    ensures err { OnErr result (SomeText (IsSiteText s.now o.now) (AppendsPrefix (K.held sink.old) (K.held sink.new))) }
-    ensures faults_later { K.faults sink.old ≤ K.faults sink.new }
-    ensures wants_later { K.wants sink.old ≤ K.wants sink.new }
-    ensures failed { IsErrOf result SinkStop.Failed → Rose (K.faults sink.old) (K.faults sink.new) }
-    ensures no_memory { IsErrOf result SinkStop.NoMemory → Rose (K.wants sink.old) (K.wants sink.new) }
+    ensures { Prints (record { held = K.held; faults = K.faults; wants = K.wants }) (IsSiteText s.now o.now) sink.old sink.new result }
 {
     put_all(sink, counts(s.len(), o.len()).bytes())?;
     print_elements(s, sink)?;
@@ -31,12 +24,7 @@ pub fn print_site<K: Sink>(s: &Site, o: &Orbit, sink: &mut K) -> Result<(), Sink
 }
 
 fn print_elements<K: Sink>(s: &Site, sink: &mut K) -> Result<(), SinkStop>
-    ensures ok { OnOk result (SomeText (AreLines IsElementLine s.now) (Appends (K.held sink.old) (K.held sink.new))) }
-    ensures err { OnErr result (SomeText (AreLines IsElementLine s.now) (AppendsPrefix (K.held sink.old) (K.held sink.new))) }
-    ensures faults_later { K.faults sink.old ≤ K.faults sink.new }
-    ensures wants_later { K.wants sink.old ≤ K.wants sink.new }
-    ensures failed { IsErrOf result SinkStop.Failed → Rose (K.faults sink.old) (K.faults sink.new) }
-    ensures no_memory { IsErrOf result SinkStop.NoMemory → Rose (K.wants sink.old) (K.wants sink.new) }
+    ensures { Prints (record { held = K.held; faults = K.faults; wants = K.wants }) (AreLines IsElementLine s.now) sink.old sink.new result }
 {
     for k in 0..s.len() {
         let line = element_line(&s.get(k));
@@ -46,12 +34,7 @@ fn print_elements<K: Sink>(s: &Site, sink: &mut K) -> Result<(), SinkStop>
 }
 
 fn print_points<K: Sink>(o: &Orbit, sink: &mut K) -> Result<(), SinkStop>
-    ensures ok { OnOk result (SomeText (AreLines IsPointLine o.now) (Appends (K.held sink.old) (K.held sink.new))) }
-    ensures err { OnErr result (SomeText (AreLines IsPointLine o.now) (AppendsPrefix (K.held sink.old) (K.held sink.new))) }
-    ensures faults_later { K.faults sink.old ≤ K.faults sink.new }
-    ensures wants_later { K.wants sink.old ≤ K.wants sink.new }
-    ensures failed { IsErrOf result SinkStop.Failed → Rose (K.faults sink.old) (K.faults sink.new) }
-    ensures no_memory { IsErrOf result SinkStop.NoMemory → Rose (K.wants sink.old) (K.wants sink.new) }
+    ensures { Prints (record { held = K.held; faults = K.faults; wants = K.wants }) (AreLines IsPointLine o.now) sink.old sink.new result }
 {
     for k in 0..o.len() {
         let line = point_line(&o.get(k));

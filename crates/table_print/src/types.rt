@@ -1,11 +1,8 @@
-ghost use Rattle.std.specs.Prelude.{◌≡◌, ◌<◌, ◌≤◌, ◌+◌, ◌++◌, OnOk, OnErr, IsErrOf, Some, length, slice_get};
+ghost use Rattle.std.specs.Prelude.{◌≡◌, ◌<◌, ◌≤◌, ◌+◌, ◌++◌, Some, length, slice_get};
 ghost use Rattle.std.specs.Option.{option_map};
-ghost use Rattle.std.specs.Io.KnownBytes.{Appends};
 ghost use Rattle.exact_ops.specs.Operator.{Operator};
 ghost use Rattle.op_types.specs.Matrix.{column_of};
-ghost use Rattle.sg_io.specs.Bytes.{AppendsPrefix};
-ghost use Rattle.sg_io.specs.Count.{Rose};
-ghost use Rattle.table_print.specs.Lines.{SomeText};
+ghost use Rattle.table_print.specs.Printing.{Prints};
 ghost use Rattle.table_print.specs.Types.{IsTypeLine, AreTypeLines, kind_text, part_text, numbers_text, axis_text};
 
 use crate::line::Line;
@@ -20,12 +17,7 @@ use triplet_text::{print_frac, print_triplet};
 /// intrinsic part in fractions of the basis vectors, and its axis. It takes no memory. After an Err a prefix of the lines is
 /// written.
 pub fn print_types<K: Sink>(g: &Group, sink: &mut K) -> Result<(), SinkStop>
-    ensures ok { OnOk result (SomeText (AreTypeLines g.now) (Appends (K.held sink.old) (K.held sink.new))) }
-    ensures err { OnErr result (SomeText (AreTypeLines g.now) (AppendsPrefix (K.held sink.old) (K.held sink.new))) }
-    ensures faults_later { K.faults sink.old ≤ K.faults sink.new }
-    ensures wants_later { K.wants sink.old ≤ K.wants sink.new }
-    ensures failed { IsErrOf result SinkStop.Failed → Rose (K.faults sink.old) (K.faults sink.new) }
-    ensures no_memory { IsErrOf result SinkStop.NoMemory → Rose (K.wants sink.old) (K.wants sink.new) }
+    ensures { Prints (record { held = K.held; faults = K.faults; wants = K.wants }) (AreTypeLines g.now) sink.old sink.new result }
 {
     for i in 0..g.len() {
         let line = line_of(g, i as u8);

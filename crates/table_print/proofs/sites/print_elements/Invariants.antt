@@ -1,11 +1,6 @@
-use Rattle.std.proofs.Common.{◌≤◌}
 use Rattle.table_print.specs.Sites.{IsElementLine}
-use Rattle.table_print.proofs.Printing.{Printed}
+use Rattle.table_print.proofs.Printing.{SoFar}
 use Rattle.table_print.proofs.sites.print_elements.Given as goal
 
 abbrev pub invariant-loop-k : goal.invariant-loop-k
-invariant-loop-k g l = record {
-  printed : Printed IsElementLine l.s (g.K.Sink.held l.fn.sink) (g.K.Sink.held l.sink) l.k;
-  faults : g.K.Sink.faults l.fn.sink ≤ g.K.Sink.faults l.sink;
-  wants : g.K.Sink.wants l.fn.sink ≤ g.K.Sink.wants l.sink;
-}
+invariant-loop-k g l = SoFar (record { held = g.K.Sink.held; faults = g.K.Sink.faults; wants = g.K.Sink.wants }) IsElementLine l.s l.fn.sink l.sink l.k
