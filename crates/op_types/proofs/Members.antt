@@ -1,5 +1,5 @@
 -- The matrices of the members of a group: their powers, and their proper parts.
-use Rattle.std.proofs.Common.{◌≡◌, ℕ, zero, suc, List, length, ⊎_elim, sym, ap, subst, ◌∙◌, refl, Contains}
+use Rattle.std.proofs.Common.{◌≡◌, ℕ, zero, suc, List, length, ⊎_elim, sym, ap, subst, ◌∙◌, refl, Contains, Some, IfSome, slice_get}
 use Rattle.std.proofs.lemmas.List.Elements.{All-contains}
 use Rattle.lattice_algebra.specs.Matrix.{Matrix, det, identity, ◌·◌}
 use Rattle.lattice_algebra.specs.Operator.{Operator, product, HasEntriesWithin}
@@ -38,3 +38,7 @@ pub same_part : (f : Operator) (w p q : Matrix) → w ≡ f.w → IsProperPart w
 same_part f w p q e h k =
     let g : IsProperPart f.w p = subst (λ m. IsProperPart m p) e h in
     ⊎_elim (λ y. g.same y ∙ sym (k.same y)) (λ n. g.opposite_of n ∙ sym (k.opposite_of n)) (positive_or_not (det f.w))
+
+-- what holds of the operator at a place holds of each that stands there
+pub each_at : (P : Operator → Type 0) (members : List Operator) (i : ℕ) (f : Operator) → slice_get members i ≡ Some f → P f → (g : Operator) → slice_get members i ≡ Some g → P g
+each_at P members i f e p g is = subst (λ o. IfSome o P) (sym e ∙ is) p

@@ -1,4 +1,4 @@
-ghost use Rattle.std.specs.Prelude.{◌≡◌, ◌<◌, ◌↔◌, ◌*◌, IsTrue, IsSome, IfSome, length, slice_get};
+ghost use Rattle.std.specs.Prelude.{◌≡◌, ◌<◌, ◌↔◌, ◌*◌, IsTrue, Some, IsSome, IfSome, length, slice_get};
 ghost use Rattle.lattice_algebra.specs.Matrix.{Matrix, Column, column_of, ◌·ᶜ◌, origin, no_matrix};
 ghost use Rattle.lattice_algebra.specs.Operator.{Operator, AreWithin, HasEntriesWithin};
 ghost use Rattle.exact_ops.specs.Fields.{matrix_in};
@@ -18,8 +18,8 @@ use group_closure::Group;
 /// common divisor, and the first that is not 0 is positive.
 pub fn axis(g: &Group, i: u8) -> Option<[i32; 3]>
     requires { i < length g.now }
-    ensures some { IfSome (slice_get g.now i) (λ (f : Operator). (p : Matrix) → IsProperPart f.w p → (IsSome result ↔ IsLine p)) }
-    ensures value { IfSome (slice_get g.now i) (λ (f : Operator). (p : Matrix) → IsProperPart f.w p → IfSome result (λ a. IsAxis p (column_of a))) }
+    ensures some { (f : Operator) → slice_get g.now i ≡ Some f → (p : Matrix) → IsProperPart f.w p → (IsSome result ↔ IsLine p) }
+    ensures value { (f : Operator) → slice_get g.now i ≡ Some f → (p : Matrix) → IsProperPart f.w p → IfSome result (λ a. IsAxis p (column_of a)) }
 {
     let w = Rotation::of(&g.op(i).w());
     let turn = cycle_of(&proper_part(&w));

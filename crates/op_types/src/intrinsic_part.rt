@@ -1,4 +1,4 @@
-ghost use Rattle.std.specs.Prelude.{◌≡◌, ◌<◌, ◌*◌, ◌-◌, pos, ◌<ℤ◌, IfSome, length, slice_get};
+ghost use Rattle.std.specs.Prelude.{◌≡◌, ◌<◌, ◌*◌, ◌-◌, pos, ◌<ℤ◌, Some, length, slice_get};
 ghost use Rattle.lattice_algebra.specs.Matrix.{column_of, sum_of_products, ◌·ᶜ◌};
 ghost use Rattle.lattice_algebra.specs.Operator.{Operator, AreWithin, HasEntriesWithin};
 ghost use Rattle.exact_ops.specs.declared.TheConstants.{UNIT as PARTS};
@@ -26,7 +26,7 @@ pub struct Frac3 {
 /// matrix itself, also where it is not proper.
 pub fn intrinsic(g: &Group, i: u8) -> Frac3
     requires { i < length g.now }
-    ensures { IfSome (slice_get g.now i) (λ (f : Operator). IsIntrinsicPart f (column_of result.n) result.d) }
+    ensures { (f : Operator) → slice_get g.now i ≡ Some f → IsIntrinsicPart f (column_of result.n) result.d }
 {
     let op = g.op(i);
     let turn = cycle_of(&Rotation::of(&op.w()));

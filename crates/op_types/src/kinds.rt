@@ -1,4 +1,4 @@
-ghost use Rattle.std.specs.Prelude.{◌<◌, ◌↔◌, IsTrue, IfSome, length, slice_get};
+ghost use Rattle.std.specs.Prelude.{◌≡◌, ◌<◌, ◌↔◌, IsTrue, Some, length, slice_get};
 ghost use Rattle.lattice_algebra.specs.Matrix.{Matrix};
 ghost use Rattle.lattice_algebra.specs.Operator.{Operator};
 ghost use Rattle.lattice_algebra.specs.Powers.{IsOrder};
@@ -13,8 +13,8 @@ use group_closure::Group;
 /// The kind of the operator at place i, counted from 0: whether its determinant is positive, and the order of its proper part.
 pub fn kind(g: &Group, i: u8) -> Kind
     requires { i < length g.now }
-    ensures handedness { IfSome (slice_get g.now i) (λ (f : Operator). IsTrue result.proper ↔ IsProper f.w) }
-    ensures order { IfSome (slice_get g.now i) (λ (f : Operator). (p : Matrix) → IsProperPart f.w p → IsOrder p result.order) }
+    ensures handedness { (f : Operator) → slice_get g.now i ≡ Some f → IsTrue result.proper ↔ IsProper f.w }
+    ensures order { (f : Operator) → slice_get g.now i ≡ Some f → (p : Matrix) → IsProperPart f.w p → IsOrder p result.order }
 {
     let w = Rotation::of(&g.op(i).w());
     Kind {

@@ -1,5 +1,5 @@
 -- Each member of a group has one line of its type.
-use Rattle.std.proofs.Common.{◌≡◌, ◌↔◌, ◌∷◌, ◌++◌, [], ℕ, ℤ, pos, ◌*ℤ◌, ◌<ℤ◌, Bool, IsTrue, List, Option, Some, None, IsSome, IfSome, slice_get, Contains, refl, sym, ap, ap₂, subst, ◌∙◌, append_assoc}
+use Rattle.std.proofs.Common.{◌≡◌, ◌↔◌, ◌∷◌, ◌++◌, [], ℕ, ℤ, pos, ◌*ℤ◌, ◌<ℤ◌, Bool, IsTrue, List, Option, Some, None, IsSome, IfSome, slice_get, Contains, refl, sym, ap, ap₂, ◌∙◌, append_assoc}
 use Rattle.std.proofs.lemmas.Bool.{false≢true}
 use Rattle.std.specs.Option.{option_map}
 use Rattle.exact_ops.specs.Operator.{Operator}
@@ -53,9 +53,6 @@ same_member f g e = cc
 
 -- ---- the three answers together
 
-at_member : (P : Operator → Type 0) (members : List Operator) (i : ℕ) (f : Operator) → slice_get members i ≡ Some f → IfSome (slice_get members i) P → P f
-at_member P members i f is h = subst (λ o. IfSome o P) is h
-
 has_axis : (p : Matrix) (axis : Option (List ℤ)) → (IsSome axis ↔ IsLine p) → IfSome axis (λ a. IsAxis p (column_of a)) → HasAxis p (option_map column_of axis)
 has_axis p None some value = λ l. false≢true (some.1 l)
 has_axis p (Some a) some value = value
@@ -63,20 +60,19 @@ has_axis p (Some a) some value = value
 abbrev pub type_of : ℕ → Bool → List ℤ → ℤ → Option (List ℤ) → OperationType
 type_of order proper n d axis = record { order = order; proper = proper; part = column_of n; denominator = d; axis = option_map column_of axis }
 
-pub is_type_of : (members : List Operator) (i : ℕ) (f : Operator) (order : ℕ) (proper : Bool) (n : List ℤ) (d : ℤ) (axis : Option (List ℤ)) → slice_get members i ≡ Some f
-    → IfSome (slice_get members i) (λ (f : Operator). IsTrue proper ↔ IsProper f.w) → IfSome (slice_get members i) (λ (f : Operator). (p : Matrix) → IsProperPart f.w p → IsOrder p order)
-    → IfSome (slice_get members i) (λ (f : Operator). IsIntrinsicPart f (column_of n) d)
-    → IfSome (slice_get members i) (λ (f : Operator). (p : Matrix) → IsProperPart f.w p → (IsSome axis ↔ IsLine p)) → IfSome (slice_get members i) (λ (f : Operator). (p : Matrix) → IsProperPart f.w p → IfSome axis (λ a. IsAxis p (column_of a)))
-    → IsTypeOf f (type_of order proper n d axis)
-is_type_of members i f order proper n d axis is handed turns part some value =
-    let line = at_member _ members i f is some in
-    let along = at_member _ members i f is value in
-    record {
-      handedness = at_member _ members i f is handed;
-      order = at_member _ members i f is turns;
-      part = at_member _ members i f is part;
-      axis = λ p h. has_axis p axis (line p h) (along p h);
-    }
+-- what is said of the operator at place i
+module _ (members : List Operator) (i : ℕ) where
+  abbrev Each : (Operator → Type 0) → Type 0
+  Each P = (f : Operator) → slice_get members i ≡ Some f → P f
+
+  pub is_type_of : (order : ℕ) (proper : Bool) (n : List ℤ) (d : ℤ) (axis : Option (List ℤ)) → Each (λ f. IsTrue proper ↔ IsProper f.w) → Each (λ f. (p : Matrix) → IsProperPart f.w p → IsOrder p order) → Each (λ f. IsIntrinsicPart f (column_of n) d)
+      → Each (λ f. (p : Matrix) → IsProperPart f.w p → (IsSome axis ↔ IsLine p)) → Each (λ f. (p : Matrix) → IsProperPart f.w p → IfSome axis (λ a. IsAxis p (column_of a))) → Each (λ f. IsTypeOf f (type_of order proper n d axis))
+  is_type_of order proper n d axis handed turns part some value f is = record {
+    handedness = handed f is;
+    order = turns f is;
+    part = part f is;
+    axis = λ p h. has_axis p axis (some f is p h) (value f is p h);
+  }
 
 -- ---- one line
 
