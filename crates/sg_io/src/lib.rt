@@ -1,5 +1,5 @@
 //! Where bytes come from and where they go: the traits of a source and of a sink, what stands for them in memory, and
-//! the adapters over the streams of std.
+//! the adapters over the streams of std. They are this project's own.
 #![tactic(auto)]
 
 mod count;

@@ -18,6 +18,7 @@ pub struct StdSource<R> {
 }
 
 impl<R: Read> StdSource<R> {
+    /// A source over the reader, with no fault counted yet.
     pub fn new(inner: R) -> StdSource<R>
         ensures left { ⟦<StdSource<R> as Source>⟧.left result ≡ R.remaining inner }
         ensures faults { ⟦<StdSource<R> as Source>⟧.faults result ≡ 0 }
@@ -71,6 +72,7 @@ impl<W: Write> Model for StdSink<W> {
 }
 
 impl<W: Write> StdSink<W> {
+    /// A sink over the writer, with no fault counted yet.
     pub fn new(inner: W) -> StdSink<W>
         ensures contents { result.contents ≡ W.contents inner }
         ensures faults { ⟦<StdSink<W> as Sink>⟧.faults result ≡ 0 }

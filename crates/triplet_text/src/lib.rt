@@ -1,4 +1,5 @@
-//! Symmetry operators as text: `x,y+1/2,-z`. The coordinate triplets of International Tables A are read and printed.
+//! Symmetry operators as text: `x,y+1/2,-z`. The coordinate triplets of International Tables A are read and printed; so are
+//! coordinates of points, fractions and affine maps. The grammar in detail, and what a line is, are this project's own.
 #![tactic(auto)]
 
 mod affine;

@@ -31,6 +31,7 @@ impl Model for NoFailSource {
 }
 
 impl NoFailSource {
+    /// A source of these bytes, of which it takes a copy. A piece has at least one byte.
     pub fn new(alloc: Global, bytes: &[u8], piece: u32) -> Result<NoFailSource, NoIoMemory>
         requires { 1 ≤ piece }
         ensures value { IfOk result (λ source. source ≡ record { left = bytes.now; piece = piece }) }
@@ -90,6 +91,7 @@ impl Model for MemSource {
 }
 
 impl MemSource {
+    /// A source of these bytes, of which it takes a copy, as of the list of the calls that fail. A piece has at least one byte.
     pub fn new(
         alloc: Global,
         bytes: &[u8],
