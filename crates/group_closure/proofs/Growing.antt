@@ -148,7 +148,7 @@ pub wide_product : (generators ops : List Operator) (f g : Operator) → IsParti
 unfolding product
 wide_product generators ops f g p c d n = inr (product UNIT f g, record { spanned = span_product generators ops f g p c d; wide = n })
 
-partial_added : (generators old new : List Operator) (f g : Operator) → IsPartial generators old → All IsNarrow generators → Contains old f → Contains generators g → HasEntriesWithin 2 (f.w · g.w) → Adds old (product UNIT f g) new → IsPartial generators new
+pub partial_added : (generators old new : List Operator) (f g : Operator) → IsPartial generators old → All IsNarrow generators → Contains old f → Contains generators g → HasEntriesWithin 2 (f.w · g.w) → Adds old (product UNIT f g) new → IsPartial generators new
 partial_added generators old new f g p v c d s a = record {
   first = first_extended old new identity_operator (extends_added old (product UNIT f g) new a) p.first;
   spanned = all_added old (product UNIT f g) new (Span generators) p.spanned (span_product generators old f g p c d) a;

@@ -3,3 +3,4 @@ pub mod Ordered
 pub mod Lists
 mod Growing
 pub mod Places
+pub mod Existence

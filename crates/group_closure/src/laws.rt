@@ -1,7 +1,7 @@
-ghost use Rattle.std.specs.Prelude.{◌≡◌, ◌≤◌, ◌↔◌, List, length};
+ghost use Rattle.std.specs.Prelude.{◌≡◌, ◌≤◌, ◌↔◌, ◌⊎◌, List, length};
 ghost use Rattle.std.specs.Int.{◌∣◌};
 ghost use Rattle.std.specs.List.{All, Contains};
-ghost use Rattle.lattice_algebra.specs.Operator.{Operator, product};
+ghost use Rattle.lattice_algebra.specs.Operator.{Operator, IsOperator, product};
 ghost use Rattle.exact_ops.specs.declared.TheConstants.{UNIT};
 ghost use Rattle.exact_ops.specs.Narrow.{IsNarrow};
 ghost use Rattle.group_closure.specs.Words.{AreDistinct, Closes, IsUnclosed};
@@ -28,6 +28,12 @@ pub fn short_narrow_list_closes()
 /// No list is both: one that `Group::close` refuses as `Unclosed` does not close.
 pub fn unclosed_never_closes()
     ensures { (list : List Operator) → IsUnclosed list → ¬ Closes list }
+{}
+
+/// Every list of operators is one or the other: it closes and has a group list, or `Group::close` refuses it.
+pub fn closes_or_is_unclosed()
+    ensures { (list : List Operator) → All (IsOperator UNIT) list
+        → ((members : List Operator) × Closes list × IsGroupList list members) ⊎ IsUnclosed list }
 {}
 
 /// Lagrange's theorem: a list of members of a group, at least one, each once, that has the product of each two of its own, has

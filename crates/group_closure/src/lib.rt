@@ -11,8 +11,8 @@ mod order;
 
 pub use group::{CloseFault, Group};
 pub use laws::{
-    members_of_a_subgroup_divide, one_group_list, same_members_same_list, short_narrow_list_closes,
-    unclosed_never_closes,
+    closes_or_is_unclosed, members_of_a_subgroup_divide, one_group_list, same_members_same_list,
+    short_narrow_list_closes, unclosed_never_closes,
 };
 
 /// The most members that a group may have. In a conventional cell a space group has at most 48 rotation parts, each with at

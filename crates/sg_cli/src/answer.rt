@@ -28,7 +28,7 @@ fn print_answer<K: Sink>(
     out: &mut K,
 ) -> Result<(), Fault>
     requires { length bytes.now ≤ MAX_INPUT }
-    ensures { Answers (record { held = K.held; faults = K.faults; wants = K.wants })
+    ensures { Answers K.seen
         command bytes.now out.old out.new result }
 {
     let list = read_lines(alloc, bytes)?;
@@ -43,7 +43,7 @@ fn print_text<K: Sink>(
     group: &Group,
     out: &mut K,
 ) -> Result<(), Fault>
-    ensures { Prints (record { held = K.held; faults = K.faults; wants = K.wants })
+    ensures { Prints K.seen
         (IsTextFor command group.now) out.old out.new result }
 {
     match command {
@@ -66,8 +66,8 @@ fn serve<S: Source, K: Sink>(
     out: &mut K,
 ) -> Result<(), Fault>
     ensures words { IsErrOf result Fault.Words ↔ IsNoCommand (texts words.now) }
-    ensures served { Serves (record { held = K.held; faults = K.faults; wants = K.wants })
-        (record { left = S.left; faults = S.faults })
+    ensures served { Serves K.seen
+        S.seen
         (texts words.now) source.old source.new out.old out.new result }
 {
     let Some(command) = read_words(words) else {
@@ -79,7 +79,7 @@ fn serve<S: Source, K: Sink>(
 
 /// Writes the text of the fault. Where the write is refused, nothing more comes of it.
 pub fn tell<E: Sink>(err: &mut E, fault: Fault)
-    ensures { IsTold (record { held = E.held; faults = E.faults; wants = E.wants })
+    ensures { IsTold E.seen
         err.old err.new (text_of fault) }
 {
     let _ = put_all(err, fault.text().bytes());
@@ -98,36 +98,36 @@ pub fn run<S: Source, K: Sink, E: Sink>(
     ensures words { (result ≡ 2) ↔ IsNoCommand (texts words.now) }
     ensures words_unread { result ≡ 2 → source.new ≡ source.old }
 
-    ensures read_fault { result ≡ 3 → Rose (S.faults source.old) (S.faults source.new) }
+    ensures read_fault { result ≡ 3 → Rose (S.seen.faults source.old) (S.seen.faults source.new) }
 
     // The status is that of the answer, of which the writing may have failed.
     ensures status { result ≢ 3 → result ≢ 9 →
-        IfSome (S.left source.old) (λ bytes. HasStatus (texts words.now) bytes (before_writing result)) }
-    ensures status_end_of_input { IsReadToEnd result → IsAtEnd (S.left source.new) }
+        IfSome (S.seen.left source.old) (λ bytes. HasStatus (texts words.now) bytes (before_writing result)) }
+    ensures status_end_of_input { IsReadToEnd result → IsAtEnd (S.seen.left source.new) }
     ensures status_too_long { result ≡ 10 →
-        ConsumesSome (S.left source.old) (S.left source.new) (λ count. count ≡ MAX_INPUT + 1) }
+        ConsumesSome (S.seen.left source.old) (S.seen.left source.new) (λ count. count ≡ MAX_INPUT + 1) }
 
     // The output is the text of the answer, or a prefix of it.
     ensures output { result ≡ 0 →
-        IfPrinted (texts words.now) (S.left source.old) (Appends (K.held out.old) (K.held out.new)) }
+        IfPrinted (texts words.now) (S.seen.left source.old) (Appends (K.seen.held out.old) (K.seen.held out.new)) }
     ensures output_prefix { result ≡ 4 →
-        IfPrinted (texts words.now) (S.left source.old) (AppendsPrefix (K.held out.old) (K.held out.new)) }
-    ensures output_memory { result ≡ 9 → (out.new ≡ out.old) ⊎ (Rose (K.wants out.old) (K.wants out.new)
-        × IfPrinted (texts words.now) (S.left source.old) (AppendsPrefix (K.held out.old) (K.held out.new))) }
+        IfPrinted (texts words.now) (S.seen.left source.old) (AppendsPrefix (K.seen.held out.old) (K.seen.held out.new)) }
+    ensures output_memory { result ≡ 9 → (out.new ≡ out.old) ⊎ (Rose (K.seen.wants out.old) (K.seen.wants out.new)
+        × IfPrinted (texts words.now) (S.seen.left source.old) (AppendsPrefix (K.seen.held out.old) (K.seen.held out.new))) }
     ensures output_none { IsRefusal result → out.new ≡ out.old }
 
-    ensures write_fault { result ≡ 4 → Rose (K.faults out.old) (K.faults out.new) }
+    ensures write_fault { result ≡ 4 → Rose (K.seen.faults out.old) (K.seen.faults out.new) }
 
     // The fault with this status is told, and it is that of the answer.
     ensures fault_text { result ≢ 0 → (fault : Fault) × (status_of fault ≡ result)
-        × (IsDecided result → IfRefused (texts words.now) (S.left source.old) fault)
-        × IsTold (record { held = E.held; faults = E.faults; wants = E.wants }) err.old err.new (text_of fault) }
+        × (IsDecided result → IfRefused (texts words.now) (S.seen.left source.old) fault)
+        × IsTold E.seen err.old err.new (text_of fault) }
     ensures fault_text_none { result ≡ 0 → err.new ≡ err.old }
 
     // Where nothing fails, a text is printed, or memory is wanted.
-    ensures complete { (Rose (S.faults source.old) (S.faults source.new) → ⊥)
-        → (Rose (K.faults out.old) (K.faults out.new) → ⊥)
-        → Completes (texts words.now) (S.left source.old) (K.held out.old) (K.held out.new) result }
+    ensures complete { (Rose (S.seen.faults source.old) (S.seen.faults source.new) → ⊥)
+        → (Rose (K.seen.faults out.old) (K.seen.faults out.new) → ⊥)
+        → Completes (texts words.now) (S.seen.left source.old) (K.seen.held out.old) (K.seen.held out.new) result }
 {
     match serve(alloc, words, source, out) {
         Ok(()) => 0,

@@ -20,8 +20,8 @@ pub struct StdSource<R> {
 impl<R: Read> StdSource<R> {
     /// A source over the reader, with no fault counted yet.
     pub fn new(inner: R) -> StdSource<R>
-        ensures left { ⟦<StdSource<R> as Source>⟧.left result ≡ R.remaining inner }
-        ensures faults { ⟦<StdSource<R> as Source>⟧.faults result ≡ 0 }
+        ensures left { ⟦<StdSource<R> as Source>⟧.seen.left result ≡ R.remaining inner }
+        ensures faults { ⟦<StdSource<R> as Source>⟧.seen.faults result ≡ 0 }
     {
         StdSource {
             inner,
@@ -31,17 +31,15 @@ impl<R: Read> StdSource<R> {
 }
 
 impl<R: Read> Source for StdSource<R> {
-    ghost left = { λ s. R.remaining s.inner };
-
-    ghost faults = { λ s. s.faults };
+    ghost seen = { record { left = λ s. R.remaining s.inner; faults = λ s. s.faults } };
 
     fn read(&mut self, buf: &mut [u8]) -> Result<usize, Failed>
         ensures bound { ReadsAtMost result buf.new }
-        ensures bytes { let left = ⟦<StdSource<R> as Source>⟧.left in
+        ensures bytes { let left = ⟦<StdSource<R> as Source>⟧.seen.left in
             ReadConsumes (left self.old) (left self.new) result buf.new }
-        ensures faults_later { let faults = ⟦<StdSource<R> as Source>⟧.faults in
+        ensures faults_later { let faults = ⟦<StdSource<R> as Source>⟧.seen.faults in
             faults self.old ≤ faults self.new }
-        ensures counted { let faults = ⟦<StdSource<R> as Source>⟧.faults in
+        ensures counted { let faults = ⟦<StdSource<R> as Source>⟧.seen.faults in
             CountsErrors (faults self.old) (faults self.new) result }
     {
         match self.inner.read(buf) {
@@ -75,7 +73,7 @@ impl<W: Write> StdSink<W> {
     /// A sink over the writer, with no fault counted yet.
     pub fn new(inner: W) -> StdSink<W>
         ensures contents { result.contents ≡ W.contents inner }
-        ensures faults { ⟦<StdSink<W> as Sink>⟧.faults result ≡ 0 }
+        ensures faults { ⟦<StdSink<W> as Sink>⟧.seen.faults result ≡ 0 }
     {
         StdSink {
             inner,
@@ -85,11 +83,7 @@ impl<W: Write> StdSink<W> {
 }
 
 impl<W: Write> Sink for StdSink<W> {
-    ghost held = { λ _. None };
-
-    ghost faults = { λ s. s.faults };
-
-    ghost wants = { λ _. 0 };
+    ghost seen = { record { held = λ _. None; faults = λ s. s.faults; wants = λ _. 0 } };
 
     fn write(&mut self, piece: &[u8]) -> Result<usize, SinkStop>
         ensures bound { WritesAtMost result piece.now }
@@ -99,9 +93,9 @@ impl<W: Write> Sink for StdSink<W> {
         ensures lost { OnErr result (AppendsPrefix self.old.contents self.new.contents piece.now) }
         ensures none { IfOk result (λ count. (count ≡ 0) ↔ (piece.now ≡ [])) }
         ensures never_wants { result ≢ Err SinkStop.NoMemory }
-        ensures faults_later { let faults = ⟦<StdSink<W> as Sink>⟧.faults in
+        ensures faults_later { let faults = ⟦<StdSink<W> as Sink>⟧.seen.faults in
             faults self.old ≤ faults self.new }
-        ensures counted { let faults = ⟦<StdSink<W> as Sink>⟧.faults in
+        ensures counted { let faults = ⟦<StdSink<W> as Sink>⟧.seen.faults in
             CountsErrors (faults self.old) (faults self.new) result }
     {
         if piece.is_empty() {

@@ -11,7 +11,7 @@ use triplet_text::print_triplet;
 /// Writes the lines of the command `ops`: one for each operator of the group, in its order. It takes no memory. After an
 /// Err a prefix of the lines is written.
 pub fn print_ops<K: Sink>(g: &Group, sink: &mut K) -> Result<(), SinkStop>
-    ensures { Prints (record { held = K.held; faults = K.faults; wants = K.wants }) (AreOperatorLines g.now) sink.old sink.new result }
+    ensures { Prints K.seen (AreOperatorLines g.now) sink.old sink.new result }
 {
     for i in 0..g.len() {
         let line = line_of(&g.op(i as u8));

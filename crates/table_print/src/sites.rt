@@ -16,7 +16,7 @@ use triplet_text::{print_frac, print_move};
 /// Writes the lines of the command `site`: the order of a site-symmetry group and the multiplicity of its point, then each
 /// element, then each point of the orbit. It takes no memory. After an Err a prefix of the lines is written.
 pub fn print_site<K: Sink>(s: &Site, o: &Orbit, sink: &mut K) -> Result<(), SinkStop>
-    ensures { Prints (record { held = K.held; faults = K.faults; wants = K.wants }) (IsSiteText s.now o.now) sink.old sink.new result }
+    ensures { Prints K.seen (IsSiteText s.now o.now) sink.old sink.new result }
 {
     put_all(sink, counts(s.len(), o.len()).bytes())?;
     print_elements(s, sink)?;
@@ -24,7 +24,7 @@ pub fn print_site<K: Sink>(s: &Site, o: &Orbit, sink: &mut K) -> Result<(), Sink
 }
 
 fn print_elements<K: Sink>(s: &Site, sink: &mut K) -> Result<(), SinkStop>
-    ensures { Prints (record { held = K.held; faults = K.faults; wants = K.wants }) (AreLines IsElementLine s.now) sink.old sink.new result }
+    ensures { Prints K.seen (AreLines IsElementLine s.now) sink.old sink.new result }
 {
     for k in 0..s.len() {
         let line = element_line(&s.get(k));
@@ -34,7 +34,7 @@ fn print_elements<K: Sink>(s: &Site, sink: &mut K) -> Result<(), SinkStop>
 }
 
 fn print_points<K: Sink>(o: &Orbit, sink: &mut K) -> Result<(), SinkStop>
-    ensures { Prints (record { held = K.held; faults = K.faults; wants = K.wants }) (AreLines IsPointLine o.now) sink.old sink.new result }
+    ensures { Prints K.seen (AreLines IsPointLine o.now) sink.old sink.new result }
 {
     for k in 0..o.len() {
         let line = point_line(&o.get(k));

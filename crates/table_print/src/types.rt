@@ -17,7 +17,7 @@ use triplet_text::{print_frac, print_triplet};
 /// intrinsic part in fractions of the basis vectors, and its axis. It takes no memory. After an Err a prefix of the lines is
 /// written.
 pub fn print_types<K: Sink>(g: &Group, sink: &mut K) -> Result<(), SinkStop>
-    ensures { Prints (record { held = K.held; faults = K.faults; wants = K.wants }) (AreTypeLines g.now) sink.old sink.new result }
+    ensures { Prints K.seen (AreTypeLines g.now) sink.old sink.new result }
 {
     for i in 0..g.len() {
         let line = line_of(g, i as u8);

@@ -36,7 +36,7 @@ impl NoFailSink {
     pub fn new(alloc: Global, piece: u32) -> NoFailSink
         requires { 1 ≤ piece }
         ensures value { result ≡ record { held = []; piece = piece; wants = 0 } }
-        ensures held { ⟦<NoFailSink as Sink>⟧.held result ≡ Some [] }
+        ensures held { ⟦<NoFailSink as Sink>⟧.seen.held result ≡ Some [] }
     {
         NoFailSink {
             bytes: Vec::new(alloc),
@@ -54,11 +54,7 @@ impl NoFailSink {
 }
 
 impl Sink for NoFailSink {
-    ghost held = { λ s. Some s.held };
-
-    ghost faults = { λ _. 0 };
-
-    ghost wants = { λ s. s.wants };
+    ghost seen = { record { held = λ s. Some s.held; faults = λ _. 0; wants = λ s. s.wants } };
 
     fn write(&mut self, piece: &[u8]) -> Result<usize, SinkStop>
         ensures bound { WritesAtMost result piece.now }
@@ -110,7 +106,7 @@ impl MemSink {
         requires { 1 ≤ piece }
         ensures value { IfOk result (λ sink. sink ≡
             record { held = []; piece = piece; wants = 0; fails = fails.now; made = 0; faults = 0 }) }
-        ensures held { IfOk result (λ sink. ⟦<MemSink as Sink>⟧.held sink ≡ Some []) }
+        ensures held { IfOk result (λ sink. ⟦<MemSink as Sink>⟧.seen.held sink ≡ Some []) }
     {
         Ok(MemSink {
             inner: NoFailSink::new(alloc, piece),
@@ -127,11 +123,7 @@ impl MemSink {
 }
 
 impl Sink for MemSink {
-    ghost held = { λ s. Some s.held };
-
-    ghost faults = { λ s. s.faults };
-
-    ghost wants = { λ s. s.wants };
+    ghost seen = { record { held = λ s. Some s.held; faults = λ s. s.faults; wants = λ s. s.wants } };
 
     fn write(&mut self, piece: &[u8]) -> Result<usize, SinkStop>
         ensures bound { WritesAtMost result piece.now }

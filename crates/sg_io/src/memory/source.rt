@@ -35,7 +35,7 @@ impl NoFailSource {
     pub fn new(alloc: Global, bytes: &[u8], piece: u32) -> Result<NoFailSource, NoIoMemory>
         requires { 1 ≤ piece }
         ensures value { IfOk result (λ source. source ≡ record { left = bytes.now; piece = piece }) }
-        ensures left { IfOk result (λ source. ⟦<NoFailSource as Source>⟧.left source ≡ Some bytes.now) }
+        ensures left { IfOk result (λ source. ⟦<NoFailSource as Source>⟧.seen.left source ≡ Some bytes.now) }
     {
         match Vec::from_slice(alloc, bytes) {
             Ok(bytes) => Ok(NoFailSource {
@@ -49,9 +49,7 @@ impl NoFailSource {
 }
 
 impl Source for NoFailSource {
-    ghost left = { λ s. Some s.left };
-
-    ghost faults = { λ _. 0 };
+    ghost seen = { record { left = λ s. Some s.left; faults = λ _. 0 } };
 
     fn read(&mut self, buf: &mut [u8]) -> Result<usize, Failed>
         ensures bound { ReadsAtMost result buf.new }
@@ -101,7 +99,7 @@ impl MemSource {
         requires { 1 ≤ piece }
         ensures value { IfOk result (λ source. source ≡
             record { left = bytes.now; piece = piece; fails = fails.now; made = 0; faults = 0 }) }
-        ensures left { IfOk result (λ source. ⟦<MemSource as Source>⟧.left source ≡ Some bytes.now) }
+        ensures left { IfOk result (λ source. ⟦<MemSource as Source>⟧.seen.left source ≡ Some bytes.now) }
     {
         Ok(MemSource {
             inner: NoFailSource::new(alloc, bytes, piece)?,
@@ -111,9 +109,7 @@ impl MemSource {
 }
 
 impl Source for MemSource {
-    ghost left = { λ s. Some s.left };
-
-    ghost faults = { λ s. s.faults };
+    ghost seen = { record { left = λ s. Some s.left; faults = λ s. s.faults } };
 
     fn read(&mut self, buf: &mut [u8]) -> Result<usize, Failed>
         ensures bound { ReadsAtMost result buf.new }

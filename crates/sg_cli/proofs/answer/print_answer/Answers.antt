@@ -6,9 +6,9 @@ use Rattle.sg_cli.proofs.answer.print_answer.Goals as goal
 pub returns-in_err-group : goal.returns-in_err-group
 returns-in_err-group g c =
     let p = err_from_is_err_and c.from_residual-in_err-group.result c.from_residual-in_err-group.ensures.1 in
-    rw (p.1 ∙ ap Err p.2) (not_closed (record { held = g.K.Sink.held; faults = g.K.Sink.faults; wants = g.K.Sink.wants }) c.args.command c.args.bytes.now c.args.out.now c.in_ok-list.list c.in_ok-list.ensures.ok c.in_err-group.field-0.0 (λ e. c.in_err-group.ensures.unclosed (ap Err e)))
+    rw (p.1 ∙ ap Err p.2) (not_closed g.K.Sink.seen c.args.command c.args.bytes.now c.args.out.now c.in_ok-list.list c.in_ok-list.ensures.ok c.in_err-group.field-0.0 (λ e. c.in_err-group.ensures.unclosed (ap Err e)))
 
 pub returns : goal.returns
-returns g c = answered (record { held = g.K.Sink.held; faults = g.K.Sink.faults; wants = g.K.Sink.wants }) c.args.command c.args.bytes.now c.args.out.now c.in_ok-list.list
+returns g c = answered g.K.Sink.seen c.args.command c.args.bytes.now c.args.out.now c.in_ok-list.list
     c.in_ok-list.ensures.ok c.in_ok-group.group c.in_ok-group.ensures.closes c.in_ok-group.ensures.ok c.print_text.new.out
     c.print_text.result c.print_text.ensures

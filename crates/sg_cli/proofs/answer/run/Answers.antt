@@ -4,22 +4,22 @@ use Rattle.sg_cli.proofs.answer.run.Goals as goal
 
 pub returns-in-Ok-clause-status : goal.returns-in-Ok-clause-status
 returns-in-Ok-clause-status g c = λ read memory.
-    status_when_done (record { held = g.K.Sink.held; faults = g.K.Sink.faults; wants = g.K.Sink.wants }) (record { left = g.S.Source.left; faults = g.S.Source.faults })
+    status_when_done g.K.Sink.seen g.S.Source.seen
     (texts c.args.words.now) c.args.source.now c.serve.new.source c.args.out.now c.serve.new.out c.in-Ok.ensures.served
 
 pub returns-in-Ok-clause-complete : goal.returns-in-Ok-clause-complete
 returns-in-Ok-clause-complete g c = λ reads writes.
-    complete_when_done (record { held = g.K.Sink.held; faults = g.K.Sink.faults; wants = g.K.Sink.wants }) (record { left = g.S.Source.left; faults = g.S.Source.faults })
+    complete_when_done g.K.Sink.seen g.S.Source.seen
     (texts c.args.words.now) c.args.source.now c.serve.new.source c.args.out.now c.serve.new.out c.in-Ok.ensures.served
 
 pub returns-in-Err-clause-status : goal.returns-in-Err-clause-status
 returns-in-Err-clause-status g c =
     rw c.status.ensures
-    (status_when_stopped (record { held = g.K.Sink.held; faults = g.K.Sink.faults; wants = g.K.Sink.wants }) (record { left = g.S.Source.left; faults = g.S.Source.faults })
+    (status_when_stopped g.K.Sink.seen g.S.Source.seen
     (texts c.args.words.now) c.args.source.now c.serve.new.source c.args.out.now c.serve.new.out c.in-Err.fault c.in-Err.ensures.served)
 
 pub returns-in-Err-clause-complete : goal.returns-in-Err-clause-complete
 returns-in-Err-clause-complete g c =
     rw c.status.ensures
-    (complete_when_stopped (record { held = g.K.Sink.held; faults = g.K.Sink.faults; wants = g.K.Sink.wants }) (record { left = g.S.Source.left; faults = g.S.Source.faults })
+    (complete_when_stopped g.K.Sink.seen g.S.Source.seen
     (texts c.args.words.now) c.args.source.now c.serve.new.source c.args.out.now c.serve.new.out c.in-Err.fault c.in-Err.ensures.served)
