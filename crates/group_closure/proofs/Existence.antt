@@ -1,5 +1,5 @@
 -- Operators close and have a group list, or are unclosed: products are taken until nothing new comes, as `close` does.
-use Rattle.std.proofs.Common.{◌≡◌, ◌⊎◌, ◌↔◌, ◌+◌, ◌<◌, ◌≤◌, ℕ, zero, suc, ℤ, unsigned_abs, List, [], ◌∷◌, ◌++◌, length, slice_get, refl, sym, ap, ◌∙◌, subst, arith, All, Contains, inl, inr, ⊎_elim, length-append, Ordering, Less, Equal, Greater}
+use Rattle.std.proofs.Common.{◌≡◌, ◌≢◌, ◌⊎◌, ◌↔◌, ◌+◌, ◌<◌, ◌≤◌, ℕ, zero, suc, ℤ, unsigned_abs, List, [], ◌∷◌, ◌++◌, length, slice_get, refl, sym, ap, ◌∙◌, subst, arith, All, Contains, inl, inr, ⊎_elim, length-append, Ordering, Less, Equal, Greater}
 use Rattle.std.specs.List.{list_any}
 use Rattle.std.specs.Ordering.{ordering_reverse}
 use Rattle.std.specs.List.Sorted.{IsStrictlySortedBy}
@@ -9,7 +9,6 @@ use Rattle.std.proofs.lemmas.List.Kept.{AllPairs-cons}
 use Rattle.std.proofs.lemmas.Map.Keys.{sorted_from_all_adjacent}
 use Rattle.finite_groups.proofs.Closing as closing
 use Rattle.finite_groups.proofs.Members as lists
-use Rattle.finite_groups.proofs.Ordered.{both_below}
 use Rattle.finite_groups.proofs.Sorting as sorting
 use Rattle.lattice_algebra.specs.Matrix.{Matrix, ◌·◌}
 use Rattle.lattice_algebra.specs.Operator.{Operator, IsOperator, AreWithin, HasEntriesWithin, product, identity_operator}
@@ -116,7 +115,10 @@ which_before f g = by (operator_cmp f g) refl
     by Greater e = inr (inr (operator_cmp_total.antisymm g f ∙ ap ordering_reverse e))
 
 not_before_itself : (f g : Operator) → f ≡ g → IsBefore f g → ⊥
-not_before_itself f g e b = both_below operator_cmp operator_cmp_total f f (subst (IsBefore f) (sym e) b) (subst (IsBefore f) (sym e) b)
+not_before_itself f g e b =
+    let less : operator_cmp f f ≡ Less = subst (IsBefore f) (sym e) b in
+    let same : Less ≡ ordering_reverse Less = sym less ∙ operator_cmp_total.antisymm f f ∙ ap ordering_reverse less in
+    absurd cc
 
 -- what was generated, in order
 listed_in_order : (generators made : List Operator) → IsGenerated generators made → (members : List Operator) × IsGroupList generators members
@@ -129,7 +131,7 @@ listed_in_order generators (one ∷ rest) p =
       record {
         first = p.first;
         span = λ f. ((λ c. (p.span f).0 (back f c)), (λ s. into f ((p.span f).1 s)));
-        distinct = AllPairs-cons _ one r.0 (λ k d l q. first_not_later one rest p.distinct ((r.2 one).1 (subst (Contains r.0) (sym q) (Contains-get_or r.0 k d l)))) (λ i j d l m q. not_before_itself _ _ q (r.1 i j d l m));
+        distinct = AllPairs-cons (λ f g. f ≢ g) one r.0 (λ k d l q. first_not_later one rest p.distinct ((r.2 one).1 (subst (Contains r.0) (sym q) (Contains-get_or r.0 k d l)))) (λ i j d l m q. not_before_itself _ _ q (r.1 i j d l m));
         sorted = sorted_from_all_adjacent operator_cmp_total r.0 identity_operator (λ k l. r.1 k (k + 1) identity_operator (omega arith) l);
       },
     )

@@ -46,7 +46,7 @@ not_closing list (inr (f, w)) c = w.wide (c.3 f w.spanned)
 pub closes_by : (list members : List Operator) → ((f : Operator) → Contains members f ↔ Span list f) → length members ≤ MAX_OPERATORS → All IsNarrow members → Closes list
 closes_by list members s l n = (members, l, λ f h. (s f).1 h, λ f h. (All-contains IsNarrow members f n ((s f).1 h)).within_two)
 
-first_not_later : (f : Operator) (ops : List Operator) → AreDistinct (f ∷ ops) → Contains ops f → ⊥
+pub first_not_later : (f : Operator) (ops : List Operator) → AreDistinct (f ∷ ops) → Contains ops f → ⊥
 first_not_later f ops d m = d 0 (suc m.0) f (omega arith) (omega (arith, m.1)) (sym m.2)
 
 pub one_list : (list a b : List Operator) → IsGroupList list a → IsGroupList list b → a ≡ b

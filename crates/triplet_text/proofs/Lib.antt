@@ -24,3 +24,4 @@ mod AffineSame
 mod LineSteps
 pub mod LineLaws
 mod Examples
+pub mod Decided

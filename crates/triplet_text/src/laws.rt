@@ -1,6 +1,7 @@
-ghost use Rattle.std.specs.Prelude.{◌≡◌, ◌<◌, ◌^◌, List, ℕ, ℤ, pos, ◌<ℤ◌, ◌*ℤ◌};
+ghost use Rattle.std.specs.Prelude.{◌≡◌, ◌<◌, ◌^◌, ◌⊎◌, List, ℕ, ℤ, pos, ◌<ℤ◌, ◌*ℤ◌};
 ghost use Rattle.exact_ops.specs.Operator.{Operator};
 ghost use Rattle.triplet_text.specs.Grammar.{IsTriplet};
+ghost use Rattle.triplet_text.specs.Lines.{AreRead, IsFirstBad, IsUnreadable, IsNotUnimodular};
 ghost use Rattle.triplet_text.specs.Coordinates.{IsCoordinate};
 ghost use Rattle.triplet_text.specs.Fractions.{fraction_text, frac_text};
 ghost use Rattle.triplet_text.specs.Printing.{affine_text, IsPrintable, IsSameMap};
@@ -9,6 +10,13 @@ ghost use Rattle.triplet_text.specs.AffineTexts.{HasValue, IsAffineText};
 /// A line is a triplet of one operator at most.
 pub fn triplet_is_unique()
     ensures { (line : List ℕ) (f g : Operator) → IsTriplet line f → IsTriplet line g → f ≡ g }
+{}
+
+/// The lines of an input are all read, or one of them is the first bad one: it is no triplet, or its matrix has no whole
+/// inverse.
+pub fn lines_are_read_or_bad()
+    ensures { (lines : List (List ℕ)) → ((list : List Operator) × AreRead lines list)
+        ⊎ (((k : ℕ) × IsFirstBad IsUnreadable lines k) ⊎ ((k : ℕ) × IsFirstBad IsNotUnimodular lines k)) }
 {}
 
 /// A text is a coordinate with one numerator and one denominator at most.
