@@ -1,4 +1,4 @@
-mod SitePoints
-pub mod Outcomes
-pub mod Unique
+pub mod PointWords
+pub mod Names
+pub mod Commands
 pub mod WordsLists

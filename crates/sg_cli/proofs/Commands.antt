@@ -1,0 +1,58 @@
+-- Words are one command at most, and whether they are one is decided.
+use Rattle.std.proofs.Common.{◌≡◌, ◌⊎◌, ℕ, List, [], ◌∷◌, inl, inr, refl, sym, ap, subst, ◌∙◌}
+use Rattle.sg_cli.specs.declared.words.Name.{Name}
+use Rattle.sg_cli.specs.Words.{Family, Bare, OfPoint, Given, HasArguments, AreNone, written, family, Asked, IsAsked, IsNoCommand}
+use Rattle.sg_cli.proofs.Names.{one_name, name_or_none}
+use Rattle.sg_cli.proofs.PointWords.{one_point_of_words, point_or_none}
+
+-- ---- arguments, by their families
+
+one_given : (f : Family) (a b : Given f) (words : List (List ℕ)) → HasArguments f a words → HasArguments f b words → a ≡ b
+one_given Bare a b words p q = refl
+one_given OfPoint a b words p q = one_point_of_words words a b p q
+
+abbrev GivenOrNone : Family → List (List ℕ) → Type 0
+GivenOrNone f words = ((given : Given f) × HasArguments f given words) ⊎ ((given : Given f) → HasArguments f given words → ⊥)
+
+given_or_none : (f : Family) (words : List (List ℕ)) → GivenOrNone f words
+given_or_none Bare [] = inl (tt, refl)
+given_or_none Bare (word ∷ words) = inr (λ given e. absurd cc)
+given_or_none OfPoint words = point_or_none words
+
+-- ---- commands
+
+same_asked : (a b : Asked) (words : List (List ℕ)) → a.name ≡ b.name → HasArguments (family a.name) a.given words → HasArguments (family b.name) b.given words → a ≡ b
+same_asked a b words e p =
+    subst (λ (name : Name). (given : Given (family name)) → HasArguments (family name) given words → a ≡ record { name = name; given = given })
+    e (λ given q. ap (λ (g : Given (family a.name)). record { name = a.name; given = g }) (one_given (family a.name) a.given given words p q)) b.given
+
+pub one_asked : (words : List (List ℕ)) (a b : Asked) → IsAsked words a → IsAsked words b → a ≡ b
+one_asked words a b p q =
+    let e : written a.name ∷ p.arguments ≡ written b.name ∷ q.arguments = sym p.words_are ∙ q.words_are in
+    let name : written a.name ≡ written b.name = cc in
+    let arguments : p.arguments ≡ q.arguments = cc in
+    same_asked a b q.arguments (one_name a.name b.name name) (subst (HasArguments (family a.name) a.given) arguments p.given) q.given
+
+-- a word that is no name, or a name with no arguments of its own, is no command
+pub no_name : (words : List (List ℕ)) (word : List ℕ) (arguments : List (List ℕ)) → words ≡ word ∷ arguments → ((name : Name) → word ≡ written name → ⊥) → IsNoCommand words
+no_name words word arguments e none = λ a h. let same = sym e ∙ h.words_are in none a.name cc
+
+pub no_given : (words : List (List ℕ)) (word : List ℕ) (arguments : List (List ℕ)) (name : Name) → words ≡ word ∷ arguments → word ≡ written name → ((given : Given (family name)) → HasArguments (family name) given arguments → ⊥) → IsNoCommand words
+no_given words word arguments name e is none = λ a h.
+    let same : word ∷ arguments ≡ written a.name ∷ h.arguments = sym e ∙ h.words_are in
+    let rest : arguments ≡ h.arguments = cc in
+    let one : name ≡ a.name = one_name name a.name cc in
+    subst (λ (n : Name). ((given : Given (family n)) → HasArguments (family n) given arguments → ⊥) → ⊥) (sym one)
+    (λ no. no a.given (subst (HasArguments (family a.name) a.given) (sym rest) h.given)) none
+
+pub asked_or_none : (words : List (List ℕ)) → ((asked : Asked) × IsAsked words asked) ⊎ IsNoCommand words
+asked_or_none [] = inr (λ a h. let e = h.words_are in absurd cc)
+asked_or_none (word ∷ arguments) = by (name_or_none word)
+  where
+    by_arguments : (name : Name) → word ≡ written name → GivenOrNone (family name) arguments → ((asked : Asked) × IsAsked (word ∷ arguments) asked) ⊎ IsNoCommand (word ∷ arguments)
+    by_arguments name is (inl g) = inl (record { name = name; given = g.0 }, record { arguments = arguments; words_are = ap (λ (w : List ℕ). w ∷ arguments) is; given = g.1 })
+    by_arguments name is (inr none) = inr (no_given (word ∷ arguments) word arguments name refl is none)
+
+    by : ((name : Name) × (word ≡ written name)) ⊎ ((name : Name) → word ≡ written name → ⊥) → ((asked : Asked) × IsAsked (word ∷ arguments) asked) ⊎ IsNoCommand (word ∷ arguments)
+    by (inl n) = by_arguments n.0 n.1 (given_or_none (family n.0) arguments)
+    by (inr none) = inr (no_name (word ∷ arguments) word arguments refl none)
