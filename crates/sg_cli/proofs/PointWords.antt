@@ -1,5 +1,5 @@
 -- Three words are the coordinates of one point at most, and whether they are is decided.
-use Rattle.std.proofs.Common.{◌≡◌, ◌⊎◌, ◌∷◌, [], List, ℕ, ◌≤◌, length, ℤ, pos, neg_ℤ, unsigned_abs, ◌*ℤ◌, ◌≤ℤ◌, ◌<ℤ◌, inl, inr, ⊎_elim, ap, sym, ◌∙◌, subst, arith}
+use Rattle.std.proofs.Common.{◌≡◌, ◌⊎◌, ◌∷◌, [], List, ℕ, zero, suc, ◌*◌, ◌≤◌, ◌<◌, length, ℤ, pos, negsuc, neg_ℤ, unsigned_abs, ◌*ℤ◌, ◌≤ℤ◌, ◌<ℤ◌, inl, inr, ⊎_elim, ap, refl, sym, ◌∙◌, subst, arith}
 use Rattle.std.proofs.lemmas.Int.{ints}
 use lib.IntN.{*ℤ_comm}
 use Rattle.std.specs.Prelude.{Option, Some, None, IsSome, IfNone}
@@ -12,6 +12,7 @@ use Rattle.exact_ops.specs.Points.{AreCoordinatesInRange, HasCoordinates}
 use Rattle.triplet_text.specs.Coordinates.{IsCoordinate}
 use Rattle.triplet_text.proofs.CoordinateLaw.{one_coordinate}
 use Rattle.triplet_text.proofs.Decided.{CoordinateOrNone, coordinate_or_none}
+use Rattle.orbit_map.specs.OrderedOrbit.{IsScaled}
 use Rattle.sg_cli.specs.Words.{ArePointTexts, ArePointWords}
 
 -- ---- one point at most
@@ -88,6 +89,23 @@ point_or_none (x ∷ []) = inr (no_three_words (x ∷ []) (λ e. omega arith))
 point_or_none (x ∷ y ∷ []) = inr (no_three_words (x ∷ y ∷ []) (λ e. omega arith))
 point_or_none (x ∷ y ∷ z ∷ []) = three_words x y z (coordinate_or_none x) (coordinate_or_none y) (coordinate_or_none z)
 point_or_none (x ∷ y ∷ z ∷ more ∷ rest) = inr (no_three_words (x ∷ y ∷ z ∷ more ∷ rest) (λ e. omega arith))
+
+-- ---- such a point is one over a positive multiple of UNIT
+
+whole_product : (u v w : ℤ) → pos 1 ≤ℤ u → pos 1 ≤ℤ v → pos 1 ≤ℤ w → (k : ℕ) × (0 < k) × (u *ℤ v *ℤ w ≡ pos k)
+whole_product (pos (suc a)) (pos (suc b)) (pos (suc c)) p q r = (suc a * suc b * suc c, grind arith, refl)
+whole_product (pos zero) v w p q r = absurd (omega (arith, ints))
+whole_product (negsuc a) v w p q r = absurd (omega (arith, ints))
+whole_product (pos (suc a)) (pos zero) w p q r = absurd (omega (arith, ints))
+whole_product (pos (suc a)) (negsuc b) w p q r = absurd (omega (arith, ints))
+whole_product (pos (suc a)) (pos (suc b)) (pos zero) p q r = absurd (omega (arith, ints))
+whole_product (pos (suc a)) (pos (suc b)) (negsuc c) p q r = absurd (omega (arith, ints))
+
+pub scaled_point : (words : List (List ℕ)) (p : Point) → ArePointWords words p → IsScaled p
+scaled_point words p h =
+    let t = h.coordinates in
+    let k = whole_product t.first.1 t.second.1 t.third.1 t.is_first.positive t.is_second.positive t.is_third.positive in
+    (record { n = p.n; d = k.0; some = k.1 }, λ i. record { n = p.n; d = (t.point.denominator ∙ ap (λ d. pos UNIT *ℤ d) k.2) i })
 
 -- ---- what is read
 

@@ -1,47 +1,53 @@
--- What is answered to words over the bytes of an input.
+-- What is answered to words over the bytes of an input: stage by stage, where the first that refuses decides.
 use Rattle.std.specs.Prelude.{◌≤◌, ◌<◌, List, ℕ, length}
 use Rattle.exact_ops.specs.Operator.{Operator}
 use Rattle.exact_ops.specs.Map.{Map}
 use Rattle.exact_ops.specs.Point.{Point}
-use Rattle.exact_ops.specs.Numbers.{point_in}
 use Rattle.triplet_text.specs.Lines.{lines_of, AreRead, IsFirstBad, IsUnreadable, IsNotUnimodular}
 use Rattle.group_closure.specs.Words.{Closes, IsUnclosed}
 use Rattle.group_closure.specs.GroupList.{IsGroupList}
 use Rattle.site_symmetry.specs.OrderedSite.{IsOrderedSite}
 use Rattle.orbit_map.specs.OrderedOrbit.{IsOrderedOrbit}
 use Rattle.sg_cli.specs.declared.TheConstants.{MAX_INPUT}
-use Rattle.sg_cli.specs.declared.fault.Fault.{Fault}
 use Rattle.sg_cli.specs.declared.fault.Fault.TheVariants.{Words, TooLong, Unreadable, NotUnimodular, Unclosed}
-use Rattle.sg_cli.specs.declared.words.Command.{Command}
-use Rattle.sg_cli.specs.declared.words.Command.TheVariants.{Ops, Types, Site}
-use Rattle.sg_cli.specs.Words.{IsCommand, IsNoCommand}
+use Rattle.sg_cli.specs.declared.words.Name.{Name}
+use Rattle.sg_cli.specs.declared.words.Name.TheVariants.{Ops, Types, Site}
+use Rattle.sg_cli.specs.Words.{Asked, Given, family, IsAsked, IsNoCommand}
 use Rattle.sg_cli.specs.Fault.{status_of}
+use Rattle.sg_cli.specs.Stages.{Outcome, Gives, Refuses, Stage, ◌>>=◌}
 use Rattle.table_print.specs.Operators.{AreOperatorLines}
 use Rattle.table_print.specs.Types.{AreTypeLines}
 use Rattle.table_print.specs.Sites.{IsSiteText}
 
--- a text, or a refusal
-pub data Answer : Type 0 where
-  Printed : (text : List ℕ) → Answer
-  Refused : (fault : Fault) → Answer
+-- ---- the stages
 
--- the status of an answer
-abbrev pub status_of_answer : Answer → ℕ
-status_of_answer (Printed text) = 0
-status_of_answer (Refused fault) = status_of fault
+-- the words ask something, or are no command
+pub data Reading (words : List (List ℕ)) : Outcome Asked → Type 0 where
+  command : {asked : Asked} → IsAsked words asked → Reading words (Gives asked)
+  no_command : IsNoCommand words → Reading words (Refuses Words)
 
--- the group of the operators that the bytes list
-pub record IsGroupOf (bytes : List ℕ) (members : List Operator) : Type 0 where
-  pub list : List Operator
-  pub read : AreRead (lines_of bytes) list
-  pub closes : Closes list
-  pub group : IsGroupList list members
+-- the input is short enough, or too long
+pub data Measuring (bytes : List ℕ) : Outcome (Unit {0}) → Type 0 where
+  short : length bytes ≤ MAX_INPUT → Measuring bytes (Gives tt)
+  long : MAX_INPUT < length bytes → Measuring bytes (Refuses TooLong)
 
--- the bytes list operators that do not close
-pub record DoNotClose (bytes : List ℕ) : Type 0 where
-  pub list : List Operator
-  pub read : AreRead (lines_of bytes) list
-  pub unclosed : IsUnclosed list
+-- the lines are operators, or one of them is the first bad one
+pub data Listing (lines : List (List ℕ)) : Outcome (List Operator) → Type 0 where
+  listed : {list : List Operator} → AreRead lines list → Listing lines (Gives list)
+  unreadable : {line : ℕ} → IsFirstBad IsUnreadable lines line → Listing lines (Refuses (Unreadable line))
+  not_unimodular : {line : ℕ} → IsFirstBad IsNotUnimodular lines line → Listing lines (Refuses (NotUnimodular line))
+
+-- the operators close to a group, or do not close
+pub data Closing (list : List Operator) : Outcome (List Operator) → Type 0 where
+  closed : {members : List Operator} → Closes list → IsGroupList list members → Closing list (Gives members)
+  unclosed : IsUnclosed list → Closing list (Refuses Unclosed)
+
+-- a text
+abbrev pub Printing : (List ℕ → Type 0) → Stage (List ℕ)
+Printing IsText (Gives text) = IsText text
+Printing IsText (Refuses fault) = ⊥
+
+-- ---- the answer
 
 -- the text is that of the site-symmetry group of x and of its orbit
 pub record IsSiteTextFor (members : List Operator) (x : Point) (text : List ℕ) : Type 0 where
@@ -51,22 +57,31 @@ pub record IsSiteTextFor (members : List Operator) (x : Point) (text : List ℕ)
   pub is_orbit : IsOrderedOrbit members x orbit
   pub is_text : IsSiteText site orbit text
 
--- the text is what a command prints of a group
-abbrev pub IsTextFor : Command → List Operator → List ℕ → Type 0
-IsTextFor Ops members text = AreOperatorLines members text
-IsTextFor Types members text = AreTypeLines members text
-IsTextFor (Site p) members text = IsSiteTextFor members (point_in p) text
+-- what each command answers over a group
+abbrev pub Answering : (name : Name) → Given (family name) → List Operator → Stage (List ℕ)
+Answering Ops given members = Printing (AreOperatorLines members)
+Answering Types given members = Printing (AreTypeLines members)
+Answering Site x members = Printing (IsSiteTextFor members x)
 
--- the answer to a command over an input that is not too long: the first line that applies
-abbrev pub IsAnswerTo : Command → List ℕ → Answer → Type 0
-IsAnswerTo command bytes (Refused (Unreadable line)) = IsFirstBad IsUnreadable (lines_of bytes) line
-IsAnswerTo command bytes (Refused (NotUnimodular line)) = IsFirstBad IsNotUnimodular (lines_of bytes) line
-IsAnswerTo command bytes (Refused Unclosed) = DoNotClose bytes
-IsAnswerTo command bytes (Refused _) = ⊥
-IsAnswerTo command bytes (Printed text) = (members : List Operator) × IsGroupOf bytes members × IsTextFor command members text
+-- the answer to what is asked, over an input that is not too long
+abbrev pub IsAnswerTo : Asked → List ℕ → Stage (List ℕ)
+IsAnswerTo asked bytes = do
+  list ← Listing (lines_of bytes)
+  members ← Closing list
+  Answering asked.name asked.given members
 
--- the answer to words over an input: the first line that applies
-abbrev pub IsAnswer : List (List ℕ) → List ℕ → Answer → Type 0
-IsAnswer words bytes (Refused Words) = IsNoCommand words
-IsAnswer words bytes (Refused TooLong) = (command : Command) × IsCommand words command × (MAX_INPUT < length bytes)
-IsAnswer words bytes answer = (command : Command) × IsCommand words command × (length bytes ≤ MAX_INPUT) × IsAnswerTo command bytes answer
+-- the answer to words over an input
+abbrev pub IsAnswer : List (List ℕ) → List ℕ → Stage (List ℕ)
+IsAnswer words bytes = do
+  asked ← Reading words
+  _ ← Measuring bytes
+  IsAnswerTo asked bytes
+
+-- an answer is a text, or a refusal
+abbrev pub Answer : Type 0
+Answer = Outcome (List ℕ)
+
+-- the status of an answer
+abbrev pub status_of_answer : Answer → ℕ
+status_of_answer (Gives text) = 0
+status_of_answer (Refuses fault) = status_of fault

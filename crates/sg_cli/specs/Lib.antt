@@ -1,5 +1,6 @@
 pub mod Answer
 pub mod Fault
 pub mod Run
+pub mod Stages
 pub mod Steps
 pub mod Words

@@ -9,7 +9,7 @@ mod words;
 
 pub use answer::{run, tell};
 pub use fault::Fault;
-pub use laws::answer_is_unique;
+pub use laws::{answer_is_unique, some_answer};
 pub use table_print::Line;
 pub use words::{Command, read_words};
 

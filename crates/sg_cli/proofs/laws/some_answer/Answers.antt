@@ -1,0 +1,5 @@
+use Rattle.sg_cli.proofs.Answers as answers
+use Rattle.sg_cli.proofs.laws.some_answer.Goals as goal
+
+pub returns : goal.returns
+returns c = answers.some_answer
