@@ -4,3 +4,4 @@ pub mod Commands
 pub mod WordsLists
 pub mod Stages
 pub mod Answers
+pub mod Outcomes

@@ -63,12 +63,15 @@ Answering Ops given members = Printing (AreOperatorLines members)
 Answering Types given members = Printing (AreTypeLines members)
 Answering Site x members = Printing (IsSiteTextFor members x)
 
+abbrev pub AnswerOver : List Operator → Asked → Stage (List ℕ)
+AnswerOver members asked = Answering asked.name asked.given members
+
 -- the answer to what is asked, over an input that is not too long
 abbrev pub IsAnswerTo : Asked → List ℕ → Stage (List ℕ)
 IsAnswerTo asked bytes = do
   list ← Listing (lines_of bytes)
   members ← Closing list
-  Answering asked.name asked.given members
+  AnswerOver members asked
 
 -- the answer to words over an input
 abbrev pub IsAnswer : List (List ℕ) → List ℕ → Stage (List ℕ)

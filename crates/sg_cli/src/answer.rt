@@ -1,17 +1,19 @@
 ghost use Rattle.std.specs.Prelude.{◌≡◌, ◌≢◌, ◌⊎◌, ◌↔◌, ◌+◌, ◌≤◌, IfSome, length, IsErrOf};
 ghost use Rattle.std.specs.Io.KnownBytes.{Appends, IsAtEnd};
+ghost use Rattle.exact_ops.specs.Numbers.{point_in};
 ghost use Rattle.sg_io.specs.Bytes.{AppendsPrefix, ConsumesSome};
 ghost use Rattle.sg_io.specs.Count.{Rose};
 ghost use Rattle.sg_cli.specs.declared.fault.Fault.{Fault};
-ghost use Rattle.sg_cli.specs.Answer.{IsTextFor};
+ghost use Rattle.sg_cli.specs.Answer.{IsAnswerTo, AnswerOver, Printing, IsSiteTextFor};
 ghost use Rattle.sg_cli.specs.Fault.{status_of, text_of};
 ghost use Rattle.sg_cli.specs.Run.{IsDecided, IsRefusal, IsReadToEnd, before_writing, HasStatus, IfPrinted, IfRefused, IsTold, Completes};
-ghost use Rattle.sg_cli.specs.Steps.{Prints, Answers, Serves};
-ghost use Rattle.sg_cli.specs.Words.{IsNoCommand, texts};
+ghost use Rattle.sg_cli.specs.Steps.{Answers, Serves};
+ghost use Rattle.sg_cli.specs.Words.{IsNoCommand, seen, texts};
 
 use crate::MAX_INPUT;
 use crate::fault::Fault;
 use crate::words::{Command, read_words};
+use exact_ops::Point;
 use group_closure::Group;
 use orbit_map::orbit;
 use sg_io::{Sink, Source, put_all, read_all};
@@ -28,8 +30,7 @@ fn print_answer<K: Sink>(
     out: &mut K,
 ) -> Result<(), Fault>
     requires { length bytes.now ≤ MAX_INPUT }
-    ensures { Answers K.seen
-        command bytes.now out.old out.new result }
+    ensures { Answers K.seen (IsAnswerTo (seen command) bytes.now) out.old out.new result }
 {
     let list = read_lines(alloc, bytes)?;
     let group = Group::close(alloc, &list)?;
@@ -43,19 +44,26 @@ fn print_text<K: Sink>(
     group: &Group,
     out: &mut K,
 ) -> Result<(), Fault>
-    ensures { Prints K.seen
-        (IsTextFor command group.now) out.old out.new result }
+    ensures { Answers K.seen (AnswerOver group.now (seen command)) out.old out.new result }
 {
     match command {
-        Command::Ops => print_ops(group, out)?,
-        Command::Types => print_types(group, out)?,
-        Command::Site(point) => {
-            let site = site(alloc, group, &point)?;
-            let orbit = orbit(alloc, group, &point)?;
-            print_site(&site, &orbit, out)?;
-        }
+        Command::Ops => Ok(print_ops(group, out)?),
+        Command::Types => Ok(print_types(group, out)?),
+        Command::Site(point) => answer_site(alloc, group, &point, out),
     }
-    Ok(())
+}
+
+fn answer_site<K: Sink>(
+    alloc: Global,
+    group: &Group,
+    point: &Point,
+    out: &mut K,
+) -> Result<(), Fault>
+    ensures { Answers K.seen (Printing (IsSiteTextFor group.now (point_in point.now))) out.old out.new result }
+{
+    let site = site(alloc, group, point)?;
+    let orbit = orbit(alloc, group, point)?;
+    Ok(print_site(&site, &orbit, out)?)
 }
 
 /// Reads the words and the source, and prints the answer.
@@ -66,9 +74,7 @@ fn serve<S: Source, K: Sink>(
     out: &mut K,
 ) -> Result<(), Fault>
     ensures words { IsErrOf result Fault.Words ↔ IsNoCommand (texts words.now) }
-    ensures served { Serves K.seen
-        S.seen
-        (texts words.now) source.old source.new out.old out.new result }
+    ensures served { Serves K.seen S.seen (texts words.now) source.old source.new out.old out.new result }
 {
     let Some(command) = read_words(words) else {
         return Err(Fault::Words);
@@ -76,7 +82,6 @@ fn serve<S: Source, K: Sink>(
     let bytes = read_all(alloc, source, MAX_INPUT)?;
     print_answer(alloc, command, &bytes, out)
 }
-
 /// Writes the text of the fault. Where the write is refused, nothing more comes of it.
 pub fn tell<E: Sink>(err: &mut E, fault: Fault)
     ensures { IsTold E.seen
@@ -124,7 +129,7 @@ pub fn run<S: Source, K: Sink, E: Sink>(
         × IsTold E.seen err.old err.new (text_of fault) }
     ensures fault_text_none { result ≡ 0 → err.new ≡ err.old }
 
-    // Where nothing fails, a text is printed, or memory is wanted.
+    // Where nothing fails, the answer is given, or memory is wanted.
     ensures complete { (Rose (S.seen.faults source.old) (S.seen.faults source.new) → ⊥)
         → (Rose (K.seen.faults out.old) (K.seen.faults out.new) → ⊥)
         → Completes (texts words.now) (S.seen.left source.old) (K.seen.held out.old) (K.seen.held out.new) result }
