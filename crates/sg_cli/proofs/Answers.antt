@@ -1,15 +1,14 @@
 -- Each stage of the answer has one outcome at most, and each has one: so words and bytes have one answer.
-use Rattle.std.proofs.Common.{◌≡◌, ◌*◌, ℕ, List, length, inl, inr, ⊎_elim, refl, sym, ap, subst, ◌∙◌, arith, All}
+use Rattle.std.proofs.Common.{◌≡◌, ◌*◌, ℕ, List, length, ⊎_elim, refl, sym, ap, subst, arith, All}
 use Rattle.std.proofs.lemmas.Bool.{cases_lt}
 use Rattle.exact_ops.specs.Operator.{Operator, IsOperator}
 use Rattle.exact_ops.specs.Point as rational
 use Rattle.exact_ops.specs.Point.{IsPoint}
 use Rattle.exact_ops.specs.declared.TheConstants.{UNIT}
-use Rattle.triplet_text.specs.Lines.{lines_of, AreRead, IsUnreadable, IsNotUnimodular}
+use Rattle.triplet_text.specs.Lines.{lines_of, IsUnreadable, IsNotUnimodular}
 use Rattle.triplet_text.proofs.LineLaws.{unreadable_are_bad, not_unimodular_are_bad, none_bad, same_place, both_kinds, same_list, read_are_operators}
 use Rattle.triplet_text.proofs.Decided.{read_or_bad}
-use Rattle.group_closure.specs.Words.{Closes}
-use Rattle.group_closure.specs.GroupList.{IsGroupList, IsGroup}
+use Rattle.group_closure.specs.GroupList.{IsGroup}
 use Rattle.group_closure.proofs.Lists.{one_list, not_closing, group_of_closing}
 use Rattle.group_closure.proofs.Existence.{closes_or_not}
 use Rattle.lattice_algebra.proofs.Numbers.{above}
@@ -26,9 +25,9 @@ use Rattle.sg_cli.specs.declared.TheConstants.{MAX_INPUT}
 use Rattle.sg_cli.specs.declared.fault.Fault.TheVariants.{Words, TooLong, Unreadable, NotUnimodular, Unclosed}
 use Rattle.sg_cli.specs.declared.words.Name.{Name}
 use Rattle.sg_cli.specs.declared.words.Name.TheVariants.{Ops, Types, Site}
-use Rattle.sg_cli.specs.Words.{Given, HasArguments, family, Asked, IsAsked}
-use Rattle.sg_cli.specs.Stages.{Outcome, Gives, Refuses, HasOneAtMost, HasSome}
-use Rattle.sg_cli.specs.Answer.{Reading, command, no_command, Measuring, short, long, Listing, listed, unreadable, not_unimodular, Closing, closed, unclosed, Printing, IsSiteTextFor, Answering, IsAnswerTo, IsAnswer}
+use Rattle.sg_cli.specs.Words.{Given, HasArguments, family, Asked}
+use Rattle.sg_cli.specs.Stages.{Gives, Refuses, HasOneAtMost, HasSome}
+use Rattle.sg_cli.specs.Answer.{Reading, command, no_command, Measuring, short, long, Listing, listed, unreadable, not_unimodular, Closing, closed, unclosed, Printing, IsSiteTextFor, Answering, IsAnswer}
 use Rattle.sg_cli.proofs.Stages.{one_behind, some_behind}
 use Rattle.sg_cli.proofs.Commands.{one_asked, asked_or_none}
 use Rattle.sg_cli.proofs.PointWords.{scaled_point}

@@ -1,7 +1,7 @@
 -- Words are one command at most, and whether they are one is decided.
 use Rattle.std.proofs.Common.{◌≡◌, ◌⊎◌, ℕ, List, [], ◌∷◌, inl, inr, refl, sym, ap, subst, ◌∙◌}
 use Rattle.sg_cli.specs.declared.words.Name.{Name}
-use Rattle.sg_cli.specs.Words.{Family, Bare, OfPoint, Given, HasArguments, AreNone, written, family, Asked, IsAsked, IsNoCommand}
+use Rattle.sg_cli.specs.Words.{Family, Bare, OfPoint, Given, HasArguments, written, family, Asked, IsAsked, IsNoCommand}
 use Rattle.sg_cli.proofs.Names.{one_name, name_or_none}
 use Rattle.sg_cli.proofs.PointWords.{one_point_of_words, point_or_none}
 

@@ -1,5 +1,5 @@
 -- From what answering did, by its outcome, to what is said by the status.
-use Rattle.std.proofs.Common.{◌≡◌, ◌≢◌, ◌≤◌, ◌<◌, ◌+◌, ◌⊎◌, ◌↔◌, ℕ, List, [], ◌++◌, Option, Some, None, IfSome, Result, Ok, Err, refl, sym, ap, subst, ◌∙◌, inl, inr, length, length-append, arith}
+use Rattle.std.proofs.Common.{◌≡◌, ◌≤◌, ◌<◌, ◌+◌, ◌↔◌, ℕ, List, [], ◌++◌, Option, Some, None, IfSome, Result, Ok, Err, refl, sym, ap, subst, ◌∙◌, inl, inr, length, length-append, arith}
 use Rattle.std.specs.Prelude.{OnOk, OnErr, IsErrOf}
 use Rattle.std.proofs.lemmas.List.{append-nil}
 use Rattle.std.specs.Io.KnownBytes.{Appends, Consumes, IsAtEnd}
@@ -18,7 +18,6 @@ use Rattle.group_closure.specs.declared.group.CloseFault.{CloseFault}
 use Rattle.group_closure.specs.declared.group.CloseFault.TheVariants as closes
 use Rattle.group_closure.specs.Words.{Closes, IsUnclosed}
 use Rattle.group_closure.specs.GroupList.{IsGroupList}
-use Rattle.table_print.specs.Lines.{SomeText}
 use Rattle.table_print.specs.Printing.{Prints}
 use Rattle.sg_cli.specs.declared.TheConstants.{MAX_INPUT}
 use Rattle.sg_cli.specs.declared.words.Name.{Name}
@@ -27,7 +26,7 @@ use Rattle.sg_cli.specs.declared.fault.Fault.{Fault}
 use Rattle.sg_cli.specs.declared.fault.Fault.TheVariants as fault
 use Rattle.sg_cli.specs.Words.{Asked, IsAsked, IsNoCommand, Given, family}
 use Rattle.sg_cli.specs.Fault.{status_of, fault_of_read, fault_of_lines, fault_of_close, fault_of_write}
-use Rattle.sg_cli.specs.Stages.{Outcome, Gives, Refuses, Stage, ◌>>=◌, behind, refused}
+use Rattle.sg_cli.specs.Stages.{Gives, Refuses, Stage, ◌>>=◌, behind, refused}
 use Rattle.sg_cli.specs.Answer.{Answer, command, no_command, short, long, Listing, listed, unreadable, not_unimodular, Closing, closed, unclosed, Printing, Answering, AnswerOver, IsAnswer, IsAnswerTo}
 use Rattle.sg_cli.specs.Run.{before_writing, HasStatus, IsDecided, IfTold, IfRefused, IsTold, Completes}
 use Rattle.sg_cli.specs.Steps.{Answers, Serves}

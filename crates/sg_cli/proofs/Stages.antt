@@ -1,7 +1,7 @@
 -- Laws of chains of stages.
 use Rattle.std.proofs.Common.{◌≡◌, ap, subst}
 use Rattle.sg_cli.specs.declared.fault.Fault.{Fault}
-use Rattle.sg_cli.specs.Stages.{Outcome, Gives, Refuses, Stage, ◌>>=◌, behind, refused, HasOneAtMost, HasSome}
+use Rattle.sg_cli.specs.Stages.{Gives, Refuses, Stage, ◌>>=◌, behind, refused, HasOneAtMost, HasSome}
 
 module _ {A B : Type 0} (first : Stage A) (next : A → Stage B) where
   -- where each stage has one outcome at most, the chain has one at most
