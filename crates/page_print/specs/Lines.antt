@@ -1,5 +1,5 @@
 -- Texts that have a line for each element of a list.
-use Rattle.std.specs.Prelude.{ℕ, List, [], ◌∷◌, ◌++◌}
+use Rattle.std.specs.Prelude.{◌≡◌, ℕ, List, [], ◌∷◌, ◌++◌}
 
 -- a line for each element, in their order
 pub data AreLines {A : Type 0} (IsLine : A → List ℕ → Type 0) : List A → List ℕ → Type 0 where
@@ -9,3 +9,10 @@ pub data AreLines {A : Type 0} (IsLine : A → List ℕ → Type 0) : List A →
 -- some such text has this property
 abbrev pub SomeText : (List ℕ → Type 0) → (List ℕ → Type 0) → Type 0
 SomeText IsText IsSuch = (text : List ℕ) × IsText text × IsSuch text
+
+-- a line was added to the page; before it stood what the texts were, and with it in front the texts still to come are such
+pub record AddsLine (Before After : List ℕ → Type 0) (old new : List ℕ) : Type 0 where
+  pub line : List ℕ
+  pub added : new ≡ old ++ line
+  pub before : (rest : List ℕ) → After rest → Before (line ++ rest)
+  pub some : (rest : List ℕ) × After rest

@@ -6,7 +6,7 @@ use Rattle.sg_io.specs.declared.sink.SinkStop.TheVariants.{Failed, NoMemory}
 use Rattle.sg_io.specs.Bytes.{AppendsPrefix}
 use Rattle.sg_io.specs.Count.{Rose}
 use Rattle.sg_io.specs.Streams.{SeenSink}
-use Rattle.table_print.specs.Lines.{SomeText}
+use Rattle.page_print.specs.Lines.{SomeText}
 
 module _ {K : Type 0} (sink : SeenSink K) where
   open sink use {held, faults, wants}
