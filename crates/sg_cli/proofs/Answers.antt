@@ -19,7 +19,7 @@ use Rattle.table_print.specs.Sites.{IsSiteText}
 use Rattle.table_print.proofs.SiteTexts as texts
 use Rattle.table_print.specs.Operators.{IsOperatorLine}
 use Rattle.table_print.specs.Types.{IsTypeLine}
-use Rattle.table_print.proofs.Lines.{one_text, some_lines}
+use Rattle.table_print.proofs.LineTexts.{one_text, some_lines}
 use Rattle.table_print.proofs.TypeLines.{one_operator_line, some_operator_line, one_type_line, some_type_line}
 use Rattle.sg_cli.specs.declared.TheConstants.{MAX_INPUT}
 use Rattle.sg_cli.specs.declared.fault.Fault.TheVariants.{Words, TooLong, Unreadable, NotUnimodular, Unclosed}

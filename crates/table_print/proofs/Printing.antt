@@ -14,7 +14,7 @@ use Rattle.sg_io.specs.Streams.{SeenSink}
 use Rattle.table_print.specs.Printing.{Prints}
 use Rattle.sg_io.specs.Bytes.{AppendsPrefix}
 use Rattle.table_print.specs.Lines.{AreLines, SomeText}
-use Rattle.table_print.proofs.Lines.{one_line, lines_append, some_lines}
+use Rattle.table_print.proofs.LineTexts.{one_line, lines_append, some_lines}
 
 -- the first i members, and one more
 take_one : {A : Type 0} (members : List A) (f : A) (i : ℕ) → slice_get members i ≡ Some f → take (i + 1) members ≡ take i members ++ f ∷ []

@@ -8,7 +8,7 @@ use Rattle.sg_io.specs.Bytes.{AppendsPrefix}
 use Rattle.triplet_text.specs.Bytes.{space, line_feed}
 use Rattle.table_print.specs.Lines.{AreLines, SomeText}
 use Rattle.table_print.specs.Sites.{counts_text, IsElementLine, IsPointLine, IsSiteText}
-use Rattle.table_print.proofs.Lines.{one_text, some_lines}
+use Rattle.table_print.proofs.LineTexts.{one_text, some_lines}
 use Rattle.table_print.proofs.Printing.{front_longer, front_behind}
 
 -- a text that was added is this one

@@ -1,7 +1,7 @@
 -- Laws of texts with a line for each element.
 use Rattle.std.proofs.Common.{◌≡◌, ℕ, suc, List, [], ◌∷◌, ◌++◌, Contains, refl, sym, ap₂, subst, append_assoc, arith}
 use Rattle.std.proofs.lemmas.List.{append-nil}
-use Rattle.table_print.specs.Lines.{AreLines}
+use Rattle.page_print.specs.Lines.{AreLines}
 
 module _ {A : Type 0} (IsLine : A → List ℕ → Type 0) where
   -- the lines of one element
