@@ -1,3 +1,4 @@
 pub mod LineTexts
-pub mod Pages
+pub mod Counting
+pub mod Gathering
 pub mod Places

@@ -1,67 +1,25 @@
-ghost use Rattle.std.specs.Prelude.{◌≡◌, ◌+◌, ◌≤◌, ◌++◌, [], length};
+ghost use Rattle.std.specs.Prelude.{◌+◌, ◌≤◌, length, OnOk};
+ghost use Rattle.page_print.specs.Lines.{IsNothing};
+ghost use Rattle.page_print.specs.Printing.{GathersText};
 
-use std::marker::Model;
+use sg_io::{Sink, SinkStop, put_all};
+use triplet_text::InPlace;
 
 /// The most bytes that a `Page` has room for.
 pub const PAGE_ROOM: usize = 4096;
 
-/// The room that a page has before a line is added.
-pub const LONGEST_LINE: usize = 1024;
+/// Whole lines that wait to be handed over, in place, so that printing takes no memory.
+pub type Page = InPlace<PAGE_ROOM>;
 
-/// Bytes in place, at most `PAGE_ROOM` of them, so that printing takes no memory.
-#[derive(Drop)]
-pub struct Page {
-    bytes: [u8; PAGE_ROOM],
-    len: usize,
-}
-
-impl Model for Page {
-    ghost use Rattle.std.specs.Prelude.{◌≤◌, ℕ, List, take};
-    ghost use Rattle.page_print.specs.declared.page.TheConstants.{PAGE_ROOM};
-
-    ghost Value = { List ℕ };
-
-    ghost view = { λ page. take page.len page.bytes };
-
-    ghost invariant = { λ page. page.len ≤ PAGE_ROOM };
-}
-
-impl Page {
-    pub fn new() -> Page
-        ensures { result ≡ [] }
-    {
-        Page {
-            bytes: [0; PAGE_ROOM],
-            len: 0,
-        }
+/// Hands the page over where it has no room for so many bytes. After an Err a prefix of it is written.
+pub fn make_room<K: Sink>(room: usize, page: &mut Page, sink: &mut K) -> Result<(), SinkStop>
+    requires { room ≤ PAGE_ROOM }
+    ensures room { OnOk result (length page.new + room ≤ PAGE_ROOM) }
+    ensures gathers { GathersText K.seen IsNothing sink.old sink.new page.old page.new result }
+{
+    if page.room() < room {
+        put_all(sink, page.bytes())?;
+        page.clear();
     }
-
-    pub fn bytes(&self) -> &[u8]
-        ensures { result.now ≡ self.now }
-    {
-        &self.bytes[..self.len]
-    }
-
-    /// How many bytes it still has room for.
-    pub fn room(&self) -> usize
-        ensures { length self.now + result ≡ PAGE_ROOM }
-    {
-        PAGE_ROOM - self.len
-    }
-
-    /// Adds the piece at the end. The page has room for it.
-    pub fn push(&mut self, piece: &[u8])
-        requires { length self.old + length piece.now ≤ PAGE_ROOM }
-        ensures { self.new ≡ self.old ++ piece.now }
-    {
-        let end = self.len + piece.len();
-        self.bytes[self.len..end].copy_from_slice(piece);
-        self.len = end;
-    }
-
-    pub fn clear(&mut self)
-        ensures { self.new ≡ [] }
-    {
-        self.len = 0;
-    }
+    Ok(())
 }

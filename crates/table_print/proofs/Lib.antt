@@ -1,4 +1,4 @@
 pub use Rattle.page_print.proofs.LineTexts
-pub mod Printing
 pub mod SiteTexts
+pub mod SitePages
 pub mod TypeLines

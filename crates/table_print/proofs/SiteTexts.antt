@@ -1,38 +1,29 @@
 -- The text of a site: the counts, the elements, the points.
-use Rattle.std.proofs.Common.{◌≡◌, ℕ, List, [], ◌∷◌, ◌++◌, length, Option, refl, sym, ap, ap₂, subst, ◌∙◌, append_assoc}
-use Rattle.std.specs.Io.KnownBytes.{Appends}
-use Rattle.std.proofs.KnownBytes.{Appends-trans}
+use Rattle.std.proofs.Common.{◌≡◌, ℕ, List, [], ◌∷◌, ◌++◌, length, refl, sym, ap, ap₂, subst, ◌∙◌, append_assoc}
+use Rattle.std.proofs.lemmas.List.{append-nil}
 use Rattle.exact_ops.specs.Map.{Map}
 use Rattle.exact_ops.specs.Point.{Point}
-use Rattle.sg_io.specs.Bytes.{AppendsPrefix}
 use Rattle.triplet_text.specs.Bytes.{space, line_feed}
-use Rattle.table_print.specs.Lines.{AreLines, SomeText}
+use Rattle.table_print.specs.Lines.{AreLines, IsNothing}
 use Rattle.table_print.specs.Sites.{counts_text, IsElementLine, IsPointLine, IsSiteText}
 use Rattle.table_print.proofs.LineTexts.{one_text, some_lines}
-use Rattle.table_print.proofs.Printing.{front_longer, front_behind}
-
--- a text that was added is this one
-added : (l m a b : List ℕ) → m ≡ l ++ a → a ≡ b → m ≡ l ++ b
-added l m a b e same = e ∙ ap (λ t. l ++ t) same
 
 -- three texts that were added behind a word with spaces between them, and the end of the line
-pub point_pushed : (l0 l1 l2 l3 l4 l5 l6 l7 word x y z u v w : List ℕ) → l0 ≡ [] → l1 ≡ l0 ++ word → l2 ≡ l1 ++ x → l3 ≡ l2 ++ space ∷ [] → l4 ≡ l3 ++ y → l5 ≡ l4 ++ space ∷ [] → l6 ≡ l5 ++ z → l7 ≡ l6 ++ line_feed ∷ [] → x ≡ u → y ≡ v → z ≡ w
-    → l7 ≡ word ++ u ++ space ∷ v ++ space ∷ w ++ line_feed ∷ []
-point_pushed l0 l1 l2 l3 l4 l5 l6 l7 word x y z u v w e0 e1 e2 e3 e4 e5 e6 e7 f g h =
-    let gap = space ∷ [] in
-    let first : l2 ≡ word ++ u = added l1 l2 x u e2 f ∙ ap (λ l. l ++ u) (e1 ∙ ap (λ l. l ++ word) e0) in
-    let second : l4 ≡ word ++ u ++ space ∷ v = added l3 l4 y v e4 g ∙ ap (λ l. l ++ v) (e3 ∙ ap (λ l. l ++ gap) first) ∙ append_assoc (word ++ u) gap v in
-    let third : l6 ≡ word ++ u ++ space ∷ v ++ space ∷ w = added l5 l6 z w e6 h ∙ ap (λ l. l ++ w) (e5 ∙ ap (λ l. l ++ gap) second) ∙ append_assoc (word ++ u ++ space ∷ v) gap w in
-    e7 ∙ ap (λ l. l ++ line_feed ∷ []) third
+point_added : (l word x y z : List ℕ) → ((((((l ++ word) ++ x) ++ space ∷ []) ++ y) ++ space ∷ []) ++ z) ++ line_feed ∷ [] ≡ l ++ (word ++ x ++ space ∷ y ++ space ∷ z ++ line_feed ∷ [])
+point_added l word x y z = simp append_assoc
+
+pub point_pushed : (l l1 l2 l3 l4 l5 l6 l7 word x y z u v w : List ℕ) → l1 ≡ l ++ word → l2 ≡ l1 ++ x → l3 ≡ l2 ++ space ∷ [] → l4 ≡ l3 ++ y → l5 ≡ l4 ++ space ∷ [] → l6 ≡ l5 ++ z → l7 ≡ l6 ++ line_feed ∷ [] → x ≡ u → y ≡ v → z ≡ w
+    → l7 ≡ l ++ (word ++ u ++ space ∷ v ++ space ∷ w ++ line_feed ∷ [])
+point_pushed l l1 l2 l3 l4 l5 l6 l7 word x y z u v w e1 e2 e3 e4 e5 e6 e7 f g h = let all = point_added l word x y z in cc
 
 module _ (site : List Map) (orbit : List Point) where
-  abbrev Counts : List ℕ
+  abbrev pub Counts : List ℕ
   Counts = counts_text (length site) (length orbit)
 
-  abbrev some_elements : (text : List ℕ) × AreLines IsElementLine site text
+  abbrev pub some_elements : (text : List ℕ) × AreLines IsElementLine site text
   some_elements = some_lines IsElementLine site (λ g m. (_, refl))
 
-  abbrev some_points : (text : List ℕ) × AreLines IsPointLine orbit text
+  abbrev pub some_points : (text : List ℕ) × AreLines IsPointLine orbit text
   some_points = some_lines IsPointLine orbit (λ p m. (_, refl))
 
   site_text : (elements points : List ℕ) → AreLines IsElementLine site elements → AreLines IsPointLine orbit points → IsSiteText site orbit (Counts ++ elements ++ points)
@@ -49,39 +40,21 @@ module _ (site : List Map) (orbit : List Point) where
   pub some_site_text : (text : List ℕ) × IsSiteText site orbit text
   some_site_text = (Counts ++ some_elements.0 ++ some_points.0, site_text some_elements.0 some_points.0 some_elements.1 some_points.1)
 
-  -- a prefix of the counts
-  pub front_of_counts : (old new : Option (List ℕ)) (counts : List ℕ) → counts ≡ Counts → AppendsPrefix old new counts → SomeText (IsSiteText site orbit) (AppendsPrefix old new)
-  front_of_counts old new counts is front =
-      let elements = some_elements in
-      let points = some_points in (
-        Counts ++ elements.0 ++ points.0,
-        site_text elements.0 points.0 elements.1 points.1,
-        front_longer old new (Counts ++ elements.0) points.0 (front_longer old new Counts elements.0 (subst (AppendsPrefix old new) is front)),
-      )
+  -- what stands behind the counts
+  pub record IsRestOfSite (rest : List ℕ) : Type 0 where
+    pub elements : List ℕ
+    pub are_elements : AreLines IsElementLine site elements
+    pub points : List ℕ
+    pub are_points : AreLines IsPointLine orbit points
+    pub whole : rest ≡ elements ++ points
 
-  -- the counts, and a prefix of the elements
-  pub front_of_elements : (old mid new : Option (List ℕ)) (counts : List ℕ) → counts ≡ Counts → Appends old mid counts → SomeText (AreLines IsElementLine site) (AppendsPrefix mid new) → SomeText (IsSiteText site orbit) (AppendsPrefix old new)
-  front_of_elements old mid new counts is first front =
-      let elements = front.0 in (
-        Counts ++ elements ++ some_points.0,
-        site_text elements some_points.0 front.1 some_points.1,
-        front_longer old new (Counts ++ elements) some_points.0 (front_behind old mid new Counts elements (subst (Appends old mid) is first) front.2),
-      )
+  pub counts_before : (rest : List ℕ) → IsRestOfSite rest → IsSiteText site orbit (Counts ++ rest)
+  counts_before rest r =
+      subst (IsSiteText site orbit) (append_assoc Counts r.elements r.points ∙ ap (λ (t : List ℕ). Counts ++ t) (sym r.whole))
+      (site_text r.elements r.points r.are_elements r.are_points)
 
-  -- the counts, the elements, and a prefix of the points
-  pub front_of_points : (old mid late new : Option (List ℕ)) (counts : List ℕ) → counts ≡ Counts → Appends old mid counts → SomeText (AreLines IsElementLine site) (Appends mid late) → SomeText (AreLines IsPointLine orbit) (AppendsPrefix late new)
-      → SomeText (IsSiteText site orbit) (AppendsPrefix old new)
-  front_of_points old mid late new counts is first second front =
-      let elements = second.0 in
-      let points = front.0 in
-      let before = Appends-trans old mid late Counts elements (subst (Appends old mid) is first) second.2 in
-      (Counts ++ elements ++ points, site_text elements points second.1 front.1, front_behind old late new (Counts ++ elements) points before front.2)
+  pub elements_before : (elements points : List ℕ) → AreLines IsElementLine site elements → AreLines IsPointLine orbit points → IsRestOfSite (elements ++ points)
+  elements_before elements points p q = record { elements = elements; are_elements = p; points = points; are_points = q; whole = refl }
 
-  -- the counts, the elements, and the points
-  pub whole : (old mid late new : Option (List ℕ)) (counts : List ℕ) → counts ≡ Counts → Appends old mid counts → SomeText (AreLines IsElementLine site) (Appends mid late) → SomeText (AreLines IsPointLine orbit) (Appends late new)
-      → SomeText (IsSiteText site orbit) (Appends old new)
-  whole old mid late new counts is first second third =
-      let elements = second.0 in
-      let points = third.0 in
-      let before = Appends-trans old mid late Counts elements (subst (Appends old mid) is first) second.2 in
-      (Counts ++ elements ++ points, site_text elements points second.1 third.1, Appends-trans old late new (Counts ++ elements) points before third.2)
+  pub points_before : (points rest : List ℕ) → AreLines IsPointLine orbit points → IsNothing rest → AreLines IsPointLine orbit (points ++ rest)
+  points_before points rest p e = subst (AreLines IsPointLine orbit) (sym (append-nil points) ∙ ap (λ (t : List ℕ). points ++ t) (sym e)) p

@@ -27,26 +27,19 @@ pub some_operator_line : (members : List Operator) (f : Operator) → Contains m
 some_operator_line members f c = (operator_text f ++ line_feed ∷ [], refl)
 
 -- three texts that were added with commas between them
-pub three_added : (l a b c : List ℕ) → ((((l ++ a) ++ comma ∷ []) ++ b) ++ comma ∷ []) ++ c ≡ l ++ (a ++ comma ∷ b ++ comma ∷ c)
-three_added l a b c =
-    let dot = comma ∷ [] in
-    append_assoc (((l ++ a) ++ dot) ++ b) dot c ∙ ap (λ t. t ++ comma ∷ c) (append_assoc (l ++ a) dot b ∙ append_assoc l a (comma ∷ b)) ∙ append_assoc l (a ++ comma ∷ b) (comma ∷ c)
+three_added : (l a b c : List ℕ) → ((((l ++ a) ++ comma ∷ []) ++ b) ++ comma ∷ []) ++ c ≡ l ++ (a ++ comma ∷ b ++ comma ∷ c)
+three_added l a b c = simp append_assoc
 
 pub three_pushed : (l l1 l2 l3 l4 l5 a b c u v w : List ℕ) → l1 ≡ l ++ a → l2 ≡ l1 ++ comma ∷ [] → l3 ≡ l2 ++ b → l4 ≡ l3 ++ comma ∷ [] → l5 ≡ l4 ++ c → a ≡ u → b ≡ v → c ≡ w → l5 ≡ l ++ (u ++ comma ∷ v ++ comma ∷ w)
 three_pushed l l1 l2 l3 l4 l5 a b c u v w e1 e2 e3 e4 e5 f g h = let all = three_added l a b c in cc
 
 -- four texts that were added with spaces between them, and the end of the line
-pub line_added : (o k p a : List ℕ) → ((((((o ++ space ∷ []) ++ k) ++ space ∷ []) ++ p) ++ space ∷ []) ++ a) ++ line_feed ∷ [] ≡ o ++ space ∷ k ++ space ∷ p ++ space ∷ a ++ line_feed ∷ []
-line_added o k p a =
-    let gap = space ∷ [] in
-    ap (λ t. t ++ line_feed ∷ []) (append_assoc ((((o ++ gap) ++ k) ++ gap) ++ p) gap a ∙ ap (λ t. t ++ space ∷ a) (append_assoc ((o ++ gap) ++ k) gap p ∙ ap (λ t. t ++ space ∷ p) (append_assoc o gap k)))
+line_added : (l o k p a : List ℕ) → (((((((l ++ o) ++ space ∷ []) ++ k) ++ space ∷ []) ++ p) ++ space ∷ []) ++ a) ++ line_feed ∷ [] ≡ l ++ (o ++ space ∷ k ++ space ∷ p ++ space ∷ a ++ line_feed ∷ [])
+line_added l o k p a = simp append_assoc
 
-pub line_pushed : (l0 l1 l2 l3 l4 l5 l6 l7 l8 o k p a u : List ℕ) → l0 ≡ [] → l1 ≡ l0 ++ o → l2 ≡ l1 ++ space ∷ [] → l3 ≡ l2 ++ k → l4 ≡ l3 ++ space ∷ [] → l5 ≡ l4 ++ p → l6 ≡ l5 ++ space ∷ [] → l7 ≡ l6 ++ a → l8 ≡ l7 ++ line_feed ∷ [] → o ≡ u
-    → l8 ≡ u ++ space ∷ k ++ space ∷ p ++ space ∷ a ++ line_feed ∷ []
-line_pushed l0 l1 l2 l3 l4 l5 l6 l7 l8 o k p a u e0 e1 e2 e3 e4 e5 e6 e7 e8 f =
-    let first : l1 ≡ o = e1 ∙ ap (λ l. l ++ o) e0 in
-    let all = line_added o k p a in
-    cc
+pub line_pushed : (l l1 l2 l3 l4 l5 l6 l7 l8 o k p a u : List ℕ) → l1 ≡ l ++ o → l2 ≡ l1 ++ space ∷ [] → l3 ≡ l2 ++ k → l4 ≡ l3 ++ space ∷ [] → l5 ≡ l4 ++ p → l6 ≡ l5 ++ space ∷ [] → l7 ≡ l6 ++ a → l8 ≡ l7 ++ line_feed ∷ [] → o ≡ u
+    → l8 ≡ l ++ (u ++ space ∷ k ++ space ∷ p ++ space ∷ a ++ line_feed ∷ [])
+line_pushed l l1 l2 l3 l4 l5 l6 l7 l8 o k p a u e1 e2 e3 e4 e5 e6 e7 e8 f = let all = line_added l o k p a in cc
 
 pub same_member : (f g : Operator) → Some f ≡ Some g → f ≡ g
 same_member f g e = cc

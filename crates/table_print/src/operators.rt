@@ -1,49 +1,59 @@
-ghost use Rattle.std.specs.Prelude.{◌≡◌, ◌+◌, ◌++◌, ◌≤◌, ℕ, List, drop, length};
-ghost use Rattle.page_print.specs.declared.page.TheConstants.{PAGE_ROOM, LONGEST_LINE};
-ghost use Rattle.table_print.specs.Lines.{AreLines};
+ghost use Rattle.std.proofs.Common.{rules};
+ghost use Rattle.std.specs.Prelude.{◌≡◌, ◌≤◌, ◌+◌, ◌++◌, drop, length};
+ghost use Rattle.page_print.specs.declared.page.TheConstants.{PAGE_ROOM};
+ghost use Rattle.table_print.specs.Lines.{AreLines, AddsSuch};
 ghost use Rattle.table_print.specs.Printing.{Prints};
 ghost use Rattle.table_print.specs.Operators.{IsOperatorLine, AreOperatorLines};
+ghost use Rattle.table_print.specs.declared.operators.TheConstants.{OPERATOR_LINE};
 
 use exact_ops::Op;
 use group_closure::Group;
-use page_print::{Lines, Page, print_lines};
+use page_print::{Listed, Page, print_listed};
 use sg_io::{Sink, SinkStop};
-use triplet_text::print_triplet;
+use triplet_text::{TEXT_ROOM, print_triplet};
+
+/// The most bytes that the line of an operator has.
+const OPERATOR_LINE: usize = TEXT_ROOM + 1;
 
 /// Writes the lines of the command `ops`: one for each operator of the group, in its order. It takes no memory. After an
 /// Err a prefix of the lines is written.
 pub fn print_ops<K: Sink>(group: &Group, sink: &mut K) -> Result<(), SinkStop>
     ensures { Prints K.seen (AreOperatorLines group.now) sink.old sink.new result }
 {
-    print_lines(&mut OperatorLines { group, at: 0 }, sink)
+    print_listed(&OperatorLines { group }, sink)
 }
 
-/// The lines of the operators from one place on.
 #[derive(Drop)]
 struct OperatorLines<'a> {
     group: &'a Group,
-    at: u16,
-    ghost within: { at ≤ length group.now },
 }
 
-impl Lines for OperatorLines<'_> {
-    ghost texts = { λ s. AreLines IsOperatorLine (drop s.at s.group.now) };
+impl Listed for OperatorLines<'_> {
+    ghost texts = { λ lines at. AreLines IsOperatorLine (drop at lines.group.now) };
 
-    ghost left = { λ s. length (drop s.at s.group.now) };
+    ghost count = { λ lines. length lines.group.now };
 
-    fn next(&mut self, page: &mut Page) -> bool {
-        if self.at == self.group.len() {
-            return false;
-        }
-        push_line(&self.group.op(self.at as u8), page);
-        self.at += 1;
-        true
+    ghost longest = { OPERATOR_LINE };
+
+    ghost fits = { Prim.search rules };
+
+    fn len(&self) -> u16 {
+        self.group.len()
+    }
+
+    fn longest_line(&self) -> usize {
+        OPERATOR_LINE
+    }
+
+    fn push_line(&self, at: u16, page: &mut Page) {
+        prove!(at < self.group.len());
+        push_operator(&self.group.op(at as u8), page);
     }
 }
 
-fn push_line(op: &Op, page: &mut Page)
-    requires { length page.old + LONGEST_LINE ≤ PAGE_ROOM }
-    ensures { (line : List ℕ) × IsOperatorLine op.now line × (page.new ≡ page.old ++ line) }
+fn push_operator(op: &Op, page: &mut Page)
+    requires { length page.old + OPERATOR_LINE ≤ PAGE_ROOM }
+    ensures { AddsSuch (IsOperatorLine op.now) page.old page.new }
 {
     page.push(print_triplet(op).bytes());
     page.push(b"\n");

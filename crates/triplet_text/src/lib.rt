@@ -26,7 +26,7 @@ pub use laws::{
 };
 pub use lines::{LineFault, read_lines};
 pub use printing::{OVER_LIMIT, PARTS_LIMIT, print_move, print_triplet};
-pub use text::{TEXT_ROOM, Text};
+pub use text::{InPlace, TEXT_ROOM, Text};
 pub use triplet::{LINE_LENGTH, read_triplet};
 
 #[cfg(test)]

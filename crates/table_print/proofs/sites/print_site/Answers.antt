@@ -1,28 +1,35 @@
-use Rattle.std.proofs.Common.{arith, ap, ap₂, ◌∙◌, Err}
+use Rattle.std.proofs.Common.{Err, ap, ap₂, ◌++◌, ◌∙◌, List, ℕ}
 use Rattle.std.proofs.lemmas.Result.{err_from_is_err_and}
 use Rattle.table_print.specs.Sites.{counts_text}
-use Rattle.table_print.proofs.Printing.{prints_stopped, stopped_behind, prints_behind}
-use Rattle.table_print.proofs.SiteTexts.{front_of_counts, front_of_elements, front_of_points, whole}
+use Rattle.table_print.proofs.SitePages.{stopped_in_elements, stopped_between, stopped_in_points, site_printed}
 use Rattle.table_print.proofs.sites.print_site.Goals as goal
 
-pub returns-in_err-put_all : goal.returns-in_err-put_all
-returns-in_err-put_all g c =
+pub returns-in_err-put_listed : goal.returns-in_err-put_listed
+returns-in_err-put_listed g c =
     let p = err_from_is_err_and c.from_residual.result c.from_residual.ensures.1 in
-    let put = c.in_err-put_all.ensures in
-    let counts = c.bytes.ensures ∙ c.counts.ensures ∙ ap₂ counts_text c.len.ensures.value c.len-2.ensures.value in
-    rw (p.1 ∙ ap Err p.2) (prints_stopped _ _ _ _ (front_of_counts c.args.s.now c.args.o.now _ _ c.bytes.result.now counts put.err) put.faults_later put.wants_later put.failed put.no_memory)
+    let counts = c.push_counts.ensures.text ∙ ap (λ (t : List ℕ). c.new-page.result ++ t) (ap₂ counts_text c.len.ensures.value c.len-2.ensures.value) in
+    rw (p.1 ∙ ap Err p.2) (stopped_in_elements g.K.Sink.seen c.args.site.now c.args.orbit.now c.args.sink.now c.new-page.result c.new-page.ensures c.push_counts.new.page counts c.put_listed.new.sink c.put_listed.new.page _ c.in_err-put_listed.ensures)
 
-pub returns-in_err-print_elements : goal.returns-in_err-print_elements
-returns-in_err-print_elements g c =
-    let p = err_from_is_err_and c.from_residual-in_err-print_elements.result c.from_residual-in_err-print_elements.ensures.1 in
-    let put = c.in_ok-put_all.ensures in
-    let counts = c.bytes.ensures ∙ c.counts.ensures ∙ ap₂ counts_text c.len.ensures.value c.len-2.ensures.value in
-    rw (p.1 ∙ ap Err p.2) (stopped_behind _ _ _ _ put.faults_later put.wants_later (front_of_elements c.args.s.now c.args.o.now _ _ _ c.bytes.result.now counts put.ok) _ c.in_err-print_elements.ensures)
+pub returns-in_err-make_room : goal.returns-in_err-make_room
+returns-in_err-make_room g c =
+    let p = err_from_is_err_and c.from_residual-in_err-make_room.result c.from_residual-in_err-make_room.ensures.1 in
+    let counts = c.push_counts.ensures.text ∙ ap (λ (t : List ℕ). c.new-page.result ++ t) (ap₂ counts_text c.len.ensures.value c.len-2.ensures.value) in
+    rw (p.1 ∙ ap Err p.2) (stopped_between g.K.Sink.seen c.args.site.now c.args.orbit.now c.args.sink.now c.new-page.result c.new-page.ensures c.push_counts.new.page counts c.put_listed.new.sink c.put_listed.new.page c.in_ok-put_listed.ensures
+    c.make_room.new.sink c.make_room.new.page _ c.in_err-make_room.ensures.gathers)
+
+pub returns-in_err-put_listed-2 : goal.returns-in_err-put_listed-2
+returns-in_err-put_listed-2 g c =
+    let p = err_from_is_err_and c.from_residual-in_err-put_listed-2.result c.from_residual-in_err-put_listed-2.ensures.1 in
+    let counts = c.push_counts.ensures.text ∙ ap (λ (t : List ℕ). c.new-page.result ++ t) (ap₂ counts_text c.len.ensures.value c.len-2.ensures.value) in
+    rw (p.1 ∙ ap Err p.2) (stopped_in_points g.K.Sink.seen c.args.site.now c.args.orbit.now c.args.sink.now c.new-page.result c.new-page.ensures c.push_counts.new.page counts c.put_listed.new.sink c.put_listed.new.page c.in_ok-put_listed.ensures
+    c.make_room.new.sink c.make_room.new.page c.in_ok-make_room.ensures.gathers c.put_listed-2.new.sink c.put_listed-2.new.page _ c.in_err-put_listed-2.ensures)
 
 pub returns : goal.returns
 returns g c =
-    let put = c.in_ok-put_all.ensures in
-    let elements = c.in_ok-print_elements.ensures in
-    let counts = c.bytes.ensures ∙ c.counts.ensures ∙ ap₂ counts_text c.len.ensures.value c.len-2.ensures.value in
-    prints_behind _ _ _ _ (omega (arith, put.faults_later, elements.faults_later)) (omega (arith, put.wants_later, elements.wants_later)) (front_of_points c.args.s.now c.args.o.now _ _ _ _ c.bytes.result.now counts put.ok elements.ok) c.print_points.result
-    (whole c.args.s.now c.args.o.now _ _ _ _ c.bytes.result.now counts put.ok elements.ok) c.print_points.ensures
+    let put = c.put_all.ensures in
+    let is = c.bytes.ensures.text in
+    let counts = c.push_counts.ensures.text ∙ ap (λ (t : List ℕ). c.new-page.result ++ t) (ap₂ counts_text c.len.ensures.value c.len-2.ensures.value) in
+    site_printed g.K.Sink.seen c.args.site.now c.args.orbit.now c.args.sink.now c.new-page.result c.new-page.ensures c.push_counts.new.page counts c.put_listed.new.sink c.put_listed.new.page c.in_ok-put_listed.ensures
+    c.make_room.new.sink c.make_room.new.page c.in_ok-make_room.ensures.gathers c.put_listed-2.new.sink c.put_all.new.sink c.put_listed-2.new.page c.put_all.result c.in_ok-put_listed-2.ensures
+    (rw is at put.ok) (rw is at put.err)
+    (record { faults_later = put.faults_later; wants_later = put.wants_later; failed = put.failed; no_memory = put.no_memory; unfailed = put.unfailed; unwanted = put.unwanted })
