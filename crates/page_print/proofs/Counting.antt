@@ -1,8 +1,6 @@
 -- What calls one behind the other did to the counts of a sink.
-use Rattle.std.proofs.Common.{◌≡◌, ◌≢◌, ℕ, ◌≤◌, Result, Ok, Err, arith, refl, ap, subst, sym, ◌∙◌}
-use Rattle.std.specs.Prelude.{IsErrOf}
+use Rattle.std.proofs.Common.{◌≡◌, ℕ, ◌≤◌, Result, Ok, arith, refl, subst, ◌∙◌}
 use Rattle.sg_io.specs.declared.sink.SinkStop.{SinkStop}
-use Rattle.sg_io.specs.declared.sink.SinkStop.TheVariants.{Failed, NoMemory}
 use Rattle.sg_io.specs.Count.{Rose}
 use Rattle.sg_io.specs.Streams.{SeenSink}
 use Rattle.page_print.specs.Printing.{Counts}

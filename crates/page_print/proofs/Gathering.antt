@@ -1,13 +1,13 @@
 -- What is gathered on a page, text behind text, and handed over.
-use Rattle.std.proofs.Common.{◌≡◌, ℕ, List, [], ◌++◌, Option, Result, Ok, Err, sym, ap, subst, ◌∙◌, append_assoc, refl}
+use Rattle.std.proofs.Common.{◌≡◌, ℕ, List, [], ◌++◌, Option, Result, Ok, Err, sym, ap, subst, ◌∙◌, append_assoc}
 use Rattle.std.proofs.lemmas.List.{append-nil}
-use Rattle.std.specs.Prelude.{OnOk, OnErr, IsErrOf}
+use Rattle.std.specs.Prelude.{OnOk, OnErr}
 use Rattle.std.specs.Io.KnownBytes.{Appends}
 use Rattle.std.proofs.KnownBytes.{Appends-nil, Appends-trans}
 use Rattle.sg_io.specs.declared.sink.SinkStop.{SinkStop}
 use Rattle.sg_io.specs.Bytes.{AppendsPrefix}
 use Rattle.sg_io.specs.Streams.{SeenSink}
-use Rattle.page_print.specs.Lines.{SomeText, IsNothing, AddsLine}
+use Rattle.page_print.specs.Lines.{IsNothing, AddsLine}
 use Rattle.page_print.specs.Printing.{Counts, Prints, Gathers, GathersText}
 use Rattle.page_print.proofs.Counting.{SameCounts, none_counted, counted_ok, same_when_ok, same_then, same_then_same}
 
@@ -33,10 +33,6 @@ module _ {K : Type 0} (sink : SeenSink K) where
   pub pushed : (old : K) (page now text : List ℕ) → now ≡ page ++ text → Gathers sink old old page now text
   pushed old page now text e = ([], Appends-nil (held old), e)
 
-  -- the page is handed over
-  pub handed_over : (old new : K) (page now : List ℕ) → Appends (held old) (held new) page → now ≡ [] → Gathers sink old new page now []
-  handed_over old new page now put e = (page, put, ap (λ (l : List ℕ). page ++ l) e)
-
   -- text behind text
   pub gathers_behind : (old mid new : K) (page more now first next : List ℕ) → Gathers sink old mid page more first → Gathers sink mid new more now next → Gathers sink old new page now (first ++ next)
   gathers_behind old mid new page more now first next a b = (
@@ -50,12 +46,6 @@ module _ {K : Type 0} (sink : SeenSink K) where
   stops_behind old mid new page more first next a front =
       subst (AppendsPrefix (held old) (held new)) (sym (append_assoc a.0 more next) ∙ ap (λ (l : List ℕ). l ++ next) a.2 ∙ append_assoc page first next)
       (prefix_behind (held old) (held mid) (held new) a.0 (more ++ next) a.1 front)
-
-  -- a page that is handed over, or is not
-  pub made_room : (old new : K) (page now : List ℕ) (result : Result (Unit {0}) SinkStop) → OnOk result (Gathers sink old new page now []) → OnErr result (AppendsPrefix (held old) (held new) page) → Counts sink old new result
-      → GathersText sink IsNothing old new page now result
-  made_room old new page now (Ok done) ok err counts = record { ok = ([], refl, ok); err = tt; counts = counts }
-  made_room old new page now (Err stop) ok err counts = record { ok = tt; err = ([], refl, subst (AppendsPrefix (held old) (held new)) (sym (append-nil page)) err); counts = counts }
 
   module _ (First : List ℕ → Type 0) (old : K) (page : List ℕ) where
     -- some text was gathered, and with it in front what is still to come is what is to be printed

@@ -37,7 +37,11 @@ pub trait Lines {
 
 /// Adds all lines to the page, which has room for the longest, and hands it over each time that the next one may not fit. It
 /// takes no memory. After an Err a prefix of what stood on the page and of the lines is written.
-pub fn put_lines<L: Lines, K: Sink>(lines: &mut L, page: &mut Page, sink: &mut K) -> Result<(), SinkStop>
+pub fn put_lines<L: Lines, K: Sink>(
+    lines: &mut L,
+    page: &mut Page,
+    sink: &mut K,
+) -> Result<(), SinkStop>
     requires { length page.old + L.longest ≤ PAGE_ROOM }
     ensures { GathersText K.seen (L.texts lines.old) sink.old sink.new page.old page.new result }
 {

@@ -68,7 +68,11 @@ impl<L: Listed> Lines for FromPlace<'_, L> {
 }
 
 /// Adds the lines of all elements to the page, as `put_lines` does.
-pub fn put_listed<L: Listed, K: Sink>(listed: &L, page: &mut Page, sink: &mut K) -> Result<(), SinkStop>
+pub fn put_listed<L: Listed, K: Sink>(
+    listed: &L,
+    page: &mut Page,
+    sink: &mut K,
+) -> Result<(), SinkStop>
     requires { length page.old + L.longest ≤ PAGE_ROOM }
     ensures { GathersText K.seen (L.texts listed.now 0) sink.old sink.new page.old page.new result }
 {

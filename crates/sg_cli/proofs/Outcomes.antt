@@ -66,8 +66,8 @@ module _ {K : Type 0} (sink : SeenSink K) where
 
   -- a text was written as far as a sink went that stopped
   pub text_stopped : {IsText IsOther : List ℕ → Type 0} → ((text : List ℕ) → IsText text → IsOther text) → (old new : K) (stop : SinkStop) → Prints sink IsText old new (Err stop) → Answers sink (Printing IsOther) old new (Err (fault_of_write stop))
-  text_stopped f old new sinks.Failed p = let front = p.err in ((front.0, f front.0 front.1, front.2), p.failed refl)
-  text_stopped f old new sinks.NoMemory p = let front = p.err in inr (p.no_memory refl, (front.0, f front.0 front.1, front.2))
+  text_stopped f old new sinks.Failed p = let front = p.err in ((front.0, f front.0 front.1, front.2), p.counts.failed refl)
+  text_stopped f old new sinks.NoMemory p = let front = p.err in inr (p.counts.no_memory refl, (front.0, f front.0 front.1, front.2))
 
   module _ (asked : Asked) (bytes : List ℕ) (old : K) where
     -- lines that could not be read

@@ -1,5 +1,5 @@
 -- What the steps inside a call of the program did, by their outcome.
-use Rattle.std.specs.Prelude.{◌≡◌, ◌⊎◌, ◌+◌, List, ℕ, Result, Ok, Err}
+use Rattle.std.specs.Prelude.{◌≡◌, ◌≢◌, ◌⊎◌, ◌+◌, List, ℕ, Result, Ok, Err}
 use Rattle.std.specs.Io.KnownBytes.{Appends, IsAtEnd}
 use Rattle.sg_io.specs.Count.{Rose}
 use Rattle.sg_io.specs.Bytes.{AppendsPrefix, ConsumesSome}
@@ -21,6 +21,11 @@ module _ {K : Type 0} (sink : SeenSink K) where
   Answers stage old new (Err fault.Writing) = SomeText (λ text. stage (Gives text)) (AppendsPrefix (held old) (held new)) × Rose (faults old) (faults new)
   Answers stage old new (Err fault.NoMemory) = (new ≡ old) ⊎ (Rose (wants old) (wants new) × SomeText (λ text. stage (Gives text)) (AppendsPrefix (held old) (held new)))
   Answers stage old new (Err other) = stage (Refuses other) × (new ≡ old)
+
+  -- where no fault of writing came the faults are as they were, and where no want of memory came the wants are
+  pub record Counted (old new : K) (result : Result (Unit {0}) Fault) : Type 0 where
+    pub unfailed : result ≢ Err fault.Writing → faults new ≡ faults old
+    pub unwanted : result ≢ Err fault.NoMemory → wants new ≡ wants old
 
   module _ {S : Type 0} (source : SeenSource S) where
     -- what serving the words did to the source and to the output

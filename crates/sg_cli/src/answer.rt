@@ -7,7 +7,7 @@ ghost use Rattle.sg_cli.specs.declared.fault.Fault.{Fault};
 ghost use Rattle.sg_cli.specs.Answer.{IsAnswerTo, AnswerOver, Printing, IsSiteTextFor};
 ghost use Rattle.sg_cli.specs.Fault.{status_of, text_of};
 ghost use Rattle.sg_cli.specs.Run.{IsDecided, IsRefusal, IsReadToEnd, before_writing, HasStatus, IfPrinted, IfRefused, IsTold, Completes};
-ghost use Rattle.sg_cli.specs.Steps.{Answers, Serves};
+ghost use Rattle.sg_cli.specs.Steps.{Answers, Counted, Serves};
 ghost use Rattle.sg_cli.specs.Words.{IsNoCommand, seen, texts};
 
 use crate::MAX_INPUT;
@@ -30,7 +30,8 @@ fn print_answer<K: Sink>(
     out: &mut K,
 ) -> Result<(), Fault>
     requires { length bytes.now ≤ MAX_INPUT }
-    ensures { Answers K.seen (IsAnswerTo (seen command) bytes.now) out.old out.new result }
+    ensures answers { Answers K.seen (IsAnswerTo (seen command) bytes.now) out.old out.new result }
+    ensures counted { Counted K.seen out.old out.new result }
 {
     let list = read_lines(alloc, bytes)?;
     let group = Group::close(alloc, &list)?;
@@ -44,7 +45,8 @@ fn print_text<K: Sink>(
     group: &Group,
     out: &mut K,
 ) -> Result<(), Fault>
-    ensures { Answers K.seen (AnswerOver group.now (seen command)) out.old out.new result }
+    ensures answers { Answers K.seen (AnswerOver group.now (seen command)) out.old out.new result }
+    ensures counted { Counted K.seen out.old out.new result }
 {
     match command {
         Command::Ops => Ok(print_ops(group, out)?),
@@ -59,7 +61,8 @@ fn answer_site<K: Sink>(
     point: &Point,
     out: &mut K,
 ) -> Result<(), Fault>
-    ensures { Answers K.seen (Printing (IsSiteTextFor group.now (point_in point.now))) out.old out.new result }
+    ensures answers { Answers K.seen (Printing (IsSiteTextFor group.now (point_in point.now))) out.old out.new result }
+    ensures counted { Counted K.seen out.old out.new result }
 {
     let site = site(alloc, group, point)?;
     let orbit = orbit(alloc, group, point)?;
@@ -75,6 +78,8 @@ fn serve<S: Source, K: Sink>(
 ) -> Result<(), Fault>
     ensures words { IsErrOf result Fault.Words ↔ IsNoCommand (texts words.now) }
     ensures served { Serves K.seen S.seen (texts words.now) source.old source.new out.old out.new result }
+    ensures counted { Counted K.seen out.old out.new result }
+    ensures unfailed { result ≢ Err Fault.Reading → S.seen.faults source.new ≡ S.seen.faults source.old }
 {
     let Some(command) = read_words(words) else {
         return Err(Fault::Words);
@@ -103,7 +108,9 @@ pub fn run<S: Source, K: Sink, E: Sink>(
     ensures words { (result ≡ 2) ↔ IsNoCommand (texts words.now) }
     ensures words_unread { result ≡ 2 → source.new ≡ source.old }
 
+    // No other status hides a fault of reading.
     ensures read_fault { result ≡ 3 → Rose (S.seen.faults source.old) (S.seen.faults source.new) }
+    ensures read_fault_only { result ≢ 3 → S.seen.faults source.new ≡ S.seen.faults source.old }
 
     // The status is that of the answer, of which the writing may have failed.
     ensures status { result ≢ 3 → result ≢ 9 →
@@ -121,7 +128,10 @@ pub fn run<S: Source, K: Sink, E: Sink>(
         × IfPrinted (texts words.now) (S.seen.left source.old) (AppendsPrefix (K.seen.held out.old) (K.seen.held out.new))) }
     ensures output_none { IsRefusal result → out.new ≡ out.old }
 
+    // No other status hides a fault of writing, or a want of memory of the output.
     ensures write_fault { result ≡ 4 → Rose (K.seen.faults out.old) (K.seen.faults out.new) }
+    ensures write_fault_only { result ≢ 4 → K.seen.faults out.new ≡ K.seen.faults out.old }
+    ensures want_only { result ≢ 9 → K.seen.wants out.new ≡ K.seen.wants out.old }
 
     // The fault with this status is told, and it is that of the answer.
     ensures fault_text { result ≢ 0 → (fault : Fault) × (status_of fault ≡ result)

@@ -5,8 +5,7 @@ use exact_ops::NoMemory;
 use group_closure::CloseFault;
 use itoa::Buffer;
 use sg_io::{ReadStop, SinkStop};
-use table_print::Line;
-use triplet_text::LineFault;
+use triplet_text::{LineFault, Text};
 
 /// Why no answer, or not the whole of it, was printed.
 #[derive(Clone, Copy, Debug, PartialEq, Eq)]
@@ -47,10 +46,10 @@ impl Fault {
     }
 
     /// The line that is told of it, with its line feed.
-    pub fn text(self) -> Line
+    pub fn text(self) -> Text
         ensures { result ≡ text_of self }
     {
-        let mut text = Line::new();
+        let mut text = Text::new();
         match self {
             Fault::Words => text.push(b"sg: words are not a command in range\n"),
             Fault::Reading => text.push(b"sg: reading failed\n"),

@@ -10,7 +10,6 @@ mod words;
 pub use answer::{run, tell};
 pub use fault::Fault;
 pub use laws::{answer_is_unique, some_answer};
-pub use table_print::Line;
 pub use words::{Command, read_words};
 
 /// The greatest number of bytes that an input may have.

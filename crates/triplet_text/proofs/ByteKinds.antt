@@ -106,6 +106,3 @@ x_alone byte h = (grind (arith, nat_tests), grind (arith, nat_tests))
 
 pub y_alone : (byte : ℕ) → is_y byte ≡ true → (is_x byte ≡ false) × (is_z byte ≡ false)
 y_alone byte h = (grind (arith, nat_tests), grind (arith, nat_tests))
-
-pub z_alone : (byte : ℕ) → is_z byte ≡ true → (is_x byte ≡ false) × (is_y byte ≡ false)
-z_alone byte h = (grind (arith, nat_tests), grind (arith, nat_tests))

@@ -5,9 +5,7 @@ use Rattle.std.proofs.lemmas.List.Elements.{recursion_from_All, All-nil, All-con
 use Rattle.exact_ops.specs.Matrix.{IsUnimodular}
 use Rattle.exact_ops.specs.Operator.{Operator, IsOperator, AreParts}
 use Rattle.exact_ops.specs.declared.TheConstants.{UNIT}
-use Rattle.triplet_text.specs.declared.lines.LineFault.{LineFault}
-use Rattle.triplet_text.specs.declared.lines.LineFault.TheVariants.{Unreadable, NotUnimodular, NoMemory}
-use Rattle.triplet_text.specs.Lines.{IsRead, IsGood, AreRead, end, skipped, read, IsFirstBad, IsFaultOf, IsUnreadable, IsNotUnimodular}
+use Rattle.triplet_text.specs.Lines.{IsRead, IsGood, AreRead, end, skipped, read, IsFirstBad, IsUnreadable, IsNotUnimodular}
 use Rattle.lattice_algebra.proofs.Remainders.{modulo_parts}
 use Rattle.triplet_text.proofs.GrammarLaw.{one_operator}
 use Rattle.triplet_text.proofs.LineSteps.{good_lines}
@@ -25,9 +23,6 @@ unreadable_are_bad line (inr r) u = u.no_triplet r.0 r.1.triplet
 pub not_unimodular_are_bad : AreBad IsNotUnimodular
 not_unimodular_are_bad line (inl s) n = absurd (n.kept s)
 not_unimodular_are_bad line (inr r) n = n.not_unimodular (subst (λ (f : Operator). IsUnimodular f.w) (one_operator line r.0 n.operator r.1.triplet n.triplet) r.1.unimodular)
-
-pub unreadable_or_not_unimodular : (line : List ℕ) → IsUnreadable line → IsNotUnimodular line → ⊥
-unreadable_or_not_unimodular line u n = u.no_triplet n.operator n.triplet
 
 -- ---- there is one first bad line
 
@@ -67,26 +62,13 @@ same_list (line ∷ lines) a b (read {f = f} {list = list} r p) (read {f = g} {l
     let tail = same_list lines list other p q in
     λ i. head i ∷ tail i
 
--- where all can be read, memory alone can be wanting
-pub no_fault : (lines : List (List ℕ)) (list : List Operator) (fault : LineFault) → AreRead lines list → IsFaultOf lines fault → fault ≡ NoMemory
-no_fault lines list (Unreadable k) r f = absurd (none_bad IsUnreadable lines list k unreadable_are_bad r f)
-no_fault lines list (NotUnimodular k) r f = absurd (none_bad IsNotUnimodular lines list k not_unimodular_are_bad r f)
-no_fault lines list NoMemory r f = refl
+pub unreadable_or_not_unimodular : (line : List ℕ) → IsUnreadable line → IsNotUnimodular line → ⊥
+unreadable_or_not_unimodular line u n = u.no_triplet n.operator n.triplet
 
 pub both_kinds : (lines : List (List ℕ)) (j k : ℕ) → IsFirstBad IsUnreadable lines j → IsFirstBad IsNotUnimodular lines k → ⊥
 both_kinds lines j k f g =
     let e = (same_place IsUnreadable IsNotUnimodular lines j k unreadable_are_bad not_unimodular_are_bad f g).1 in
     unreadable_or_not_unimodular g.line (subst IsUnreadable e f.bad) g.bad
-
--- two faults that are no want of memory are one
-pub same_fault : (lines : List (List ℕ)) (a b : LineFault) → IsFaultOf lines a → IsFaultOf lines b → (a ≡ NoMemory → ⊥) → (b ≡ NoMemory → ⊥) → a ≡ b
-same_fault lines (Unreadable j) (Unreadable k) f g m n = ap Unreadable (same_place IsUnreadable IsUnreadable lines j k unreadable_are_bad unreadable_are_bad f g).0
-same_fault lines (Unreadable j) (NotUnimodular k) f g m n = absurd (both_kinds lines j k f g)
-same_fault lines (Unreadable j) NoMemory f g m n = absurd (n refl)
-same_fault lines (NotUnimodular j) (Unreadable k) f g m n = absurd (both_kinds lines k j g f)
-same_fault lines (NotUnimodular j) (NotUnimodular k) f g m n = ap NotUnimodular (same_place IsNotUnimodular IsNotUnimodular lines j k not_unimodular_are_bad not_unimodular_are_bad f g).0
-same_fault lines (NotUnimodular j) NoMemory f g m n = absurd (n refl)
-same_fault lines NoMemory b f g m n = absurd (m refl)
 
 -- ---- what is read is an operator
 

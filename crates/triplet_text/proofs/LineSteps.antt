@@ -1,6 +1,5 @@
 -- Lines that were read one by one.
 use Rattle.std.proofs.Common.{◌≡◌, ℕ, ◌+◌, ◌<◌, ◌≤◌, Bool, true, false, List, [], ◌∷◌, ◌++◌, Option, Some, None, MatchOption, Bor, length, inl, inr, sym, subst, ◌∙◌, refl, arith, length-append, append_assoc}
-use Rattle.std.proofs.lemmas.List.{append-nil}
 use Rattle.std.specs.List.{AllByRecursion}
 use Rattle.std.proofs.lemmas.List.Elements.{All-from_recursion}
 use Rattle.exact_ops.specs.Operator.{Operator}
@@ -10,7 +9,7 @@ use borrow.Author.Tests.{eqb-true}
 use Rattle.triplet_text.specs.Bytes.{is_blank, hash}
 use Rattle.triplet_text.specs.Tokens.{Each}
 use Rattle.triplet_text.specs.Pieces.{is_skipped}
-use Rattle.triplet_text.specs.Lines.{IsSkipped, blank, comment, lines_of, IsGood, AreRead, end, skipped, read, AddsRead, IsFirstBad, IsFaultAt, IsFaultOf, IsUnreadable, IsNotUnimodular}
+use Rattle.triplet_text.specs.Lines.{IsSkipped, blank, comment, lines_of, IsGood, AreRead, end, skipped, read, AddsRead, IsFirstBad, IsFaultAt, IsFaultOf, IsUnreadable, IsNotUnimodular, IsTripletLine}
 
 -- ---- skipped lines
 
@@ -88,15 +87,10 @@ one_more lines left line k old new h a = record {
   read = subst (AreRead (h.before ++ line ∷ [])) (sym a.grown) (joined h.read (line ∷ []) a.added a.read);
 }
 
-pub all_read : (lines : List (List ℕ)) (k : ℕ) (list : List Operator) → AreReadBefore lines [] k list → AreRead lines list
-all_read lines k list h =
-    let e : lines ≡ h.before = h.cut ∙ append-nil h.before in
-    subst (λ (xs : List (List ℕ)). AreRead xs list) (sym e) h.read
-
 first_bad : (Bad : List ℕ → Type 0) (lines left : List (List ℕ)) (line : List ℕ) (k n : ℕ) (list : List Operator) → AreReadBefore lines (line ∷ left) k list → n ≡ k → Bad line → IsFirstBad Bad lines n
 first_bad Bad lines left line k n list h e b = record { before = h.before; line = line; after = left; cut = h.cut; good = All-from_recursion IsGood h.before (good_lines h.read); number = e ∙ h.number; bad = b }
 
 pub fault_found : (lines left : List (List ℕ)) (line : List ℕ) (k : ℕ) (list : List Operator) (fault : LineFault) → AreReadBefore lines (line ∷ left) k list → IsFaultAt k line fault → IsFaultOf lines fault
 fault_found lines left line k list (Unreadable n) h f = first_bad IsUnreadable lines left line k n list h f.0 f.1
 fault_found lines left line k list (NotUnimodular n) h f = first_bad IsNotUnimodular lines left line k n list h f.0 f.1
-fault_found lines left line k list NoMemory h f = tt
+fault_found lines left line k list NoMemory h f = (k, first_bad IsTripletLine lines left line k k list h refl f)

@@ -7,7 +7,7 @@ use Rattle.exact_ops.specs.declared.TheConstants.{UNIT}
 use Rattle.triplet_text.specs.declared.printing.TheConstants.{OVER_LIMIT, PARTS_LIMIT}
 use Rattle.triplet_text.specs.Bytes.{star}
 use Rattle.triplet_text.specs.Fractions.{fraction_text, frac_text}
-use Rattle.triplet_text.specs.Printing.{joined, multiple_text, coefficient_text, constant_text, terms_text, component_text, or_zero}
+use Rattle.triplet_text.specs.Printing.{joined, multiple_text, coefficient_text, constant_text, terms_text, or_zero}
 use Rattle.triplet_text.proofs.LowestTerms.{fraction_short}
 
 pub joined_is : {old text term piece : List ℕ} → old ≡ text → term ≡ piece → joined old term ≡ joined text piece
@@ -36,9 +36,6 @@ are_passed d x y z parts few small part = record {
 
 pub terms_is : (d : ℕ) (x y z parts : ℤ) → ArePassed x y z parts → terms_text d (passed x) (passed y) (passed z) (passed_parts parts) ≡ terms_text d x y z parts
 terms_is d x y z parts p = λ i. terms_text d (p.first i) (p.second i) (p.third i) (p.constant i)
-
-pub component_is : (d : ℕ) (x y z parts : ℤ) → ArePassed x y z parts → component_text d (passed x) (passed y) (passed z) (passed_parts parts) ≡ component_text d x y z parts
-component_is d x y z parts p = λ i. component_text d (p.first i) (p.second i) (p.third i) (p.constant i)
 
 -- a text that is not empty stands as it is
 pub kept : (text : List ℕ) → eqb (length text) 0 ≡ false → or_zero text ≡ text

@@ -30,6 +30,12 @@ pub record IsNotUnimodular (line : List ℕ) : Type 0 where
   pub triplet : IsTriplet line operator
   pub not_unimodular : ¬ IsUnimodular operator.w
 
+-- a line that is not skipped and is a triplet
+pub record IsTripletLine (line : List ℕ) : Type 0 where
+  pub kept : ¬ IsSkipped line
+  pub operator : Operator
+  pub triplet : IsTriplet line operator
+
 -- a line that is not skipped and is a triplet of f, whose matrix has a whole inverse
 pub record IsRead (line : List ℕ) (f : Operator) : Type 0 where
   pub kept : ¬ IsSkipped line
@@ -51,7 +57,7 @@ pub record AddsRead (lines : List (List ℕ)) (old new : List Operator) : Type 0
   pub read : AreRead lines added
   pub grown : new ≡ old ++ added
 
--- line k is bad, and each line before it is good
+-- line k is bad, or such as is asked for, and each line before it is good
 pub record IsFirstBad (Bad : List ℕ → Type 0) (lines : List (List ℕ)) (k : ℕ) : Type 0 where
   pub before : List (List ℕ)
   pub line : List ℕ
@@ -61,14 +67,14 @@ pub record IsFirstBad (Bad : List ℕ → Type 0) (lines : List (List ℕ)) (k :
   pub number : k ≡ length before + 1
   pub bad : Bad line
 
--- a fault names the first bad line by its kind; nothing is said of want of memory
+-- a fault names the first bad line by its kind; memory is wanted for a triplet alone, behind lines that are good
 abbrev pub IsFaultOf : List (List ℕ) → LineFault → Type 0
 IsFaultOf lines (Unreadable k) = IsFirstBad IsUnreadable lines k
 IsFaultOf lines (NotUnimodular k) = IsFirstBad IsNotUnimodular lines k
-IsFaultOf lines NoMemory = Unit {0}
+IsFaultOf lines NoMemory = (k : ℕ) × IsFirstBad IsTripletLine lines k
 
--- a fault names line k, by its kind
+-- a fault names line k, by its kind; memory is wanted for a triplet alone
 abbrev pub IsFaultAt : ℕ → List ℕ → LineFault → Type 0
 IsFaultAt k line (Unreadable n) = (n ≡ k) × IsUnreadable line
 IsFaultAt k line (NotUnimodular n) = (n ≡ k) × IsNotUnimodular line
-IsFaultAt k line NoMemory = Unit {0}
+IsFaultAt k line NoMemory = IsTripletLine line

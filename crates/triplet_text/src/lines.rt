@@ -16,7 +16,7 @@ pub enum LineFault {
     Unreadable(u32),
     /// The first bad line, counted from 1, is a triplet whose matrix has no whole inverse.
     NotUnimodular(u32),
-    /// There is no memory for one more, which may come for any input.
+    /// There is no memory for one more. The lines before it are good.
     NoMemory,
 }
 

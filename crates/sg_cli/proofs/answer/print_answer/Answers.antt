@@ -4,16 +4,16 @@ use Rattle.sg_cli.specs.Words.{seen}
 use Rattle.sg_cli.proofs.Outcomes.{not_listed, not_closed, answered}
 use Rattle.sg_cli.proofs.answer.print_answer.Goals as goal
 
-pub returns-in_err-list : goal.returns-in_err-list
-returns-in_err-list g c =
+pub returns-in_err-list-clause-answers : goal.returns-in_err-list-clause-answers
+returns-in_err-list-clause-answers g c =
     let p = err_from_is_err_and c.from_residual.result c.from_residual.ensures.1 in
     rw (p.1 ∙ ap Err p.2) (not_listed g.K.Sink.seen (seen c.args.command) c.args.bytes.now c.args.out.now c.in_err-list.field-0.0 c.in_err-list.ensures.fault)
 
-pub returns-in_err-group : goal.returns-in_err-group
-returns-in_err-group g c =
+pub returns-in_err-group-clause-answers : goal.returns-in_err-group-clause-answers
+returns-in_err-group-clause-answers g c =
     let p = err_from_is_err_and c.from_residual-in_err-group.result c.from_residual-in_err-group.ensures.1 in
     rw (p.1 ∙ ap Err p.2) (not_closed g.K.Sink.seen (seen c.args.command) c.args.bytes.now c.args.out.now c.in_ok-list.list c.in_ok-list.ensures.ok c.in_err-group.field-0.0 (λ e. c.in_err-group.ensures.unclosed (ap Err e)))
 
-pub returns : goal.returns
-returns g c =
-    answered g.K.Sink.seen (seen c.args.command) c.args.bytes.now c.args.out.now c.in_ok-list.list c.in_ok-list.ensures.ok c.in_ok-group.group c.in_ok-group.ensures.closes c.in_ok-group.ensures.ok c.print_text.new.out c.print_text.result c.print_text.ensures
+pub returns-clause-answers : goal.returns-clause-answers
+returns-clause-answers g c =
+    answered g.K.Sink.seen (seen c.args.command) c.args.bytes.now c.args.out.now c.in_ok-list.list c.in_ok-list.ensures.ok c.in_ok-group.group c.in_ok-group.ensures.closes c.in_ok-group.ensures.ok c.print_text.new.out c.print_text.result c.print_text.ensures.answers

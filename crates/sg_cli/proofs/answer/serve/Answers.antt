@@ -11,9 +11,9 @@ returns-in_err-bytes-clause-served g c =
     rw (p.1 ∙ ap Err p.2) (not_read g.K.Sink.seen g.S.Source.seen (texts c.args.words.now) _ _ _ _ (seen c.in-Some.command) c.in-Some.ensures.some c.in_err-bytes.field-0.0 (λ e. c.in_err-bytes.ensures.failed (ap Err e)) (taken.0, taken.1, λ e. taken.2.1.0 (ap Err e)) refl)
 
 pub returns-clause-words : goal.returns-clause-words
-returns-clause-words g c = words_were_read g.K.Sink.seen g.S.Source.seen (texts c.args.words.now) c.args.source.now c.read_all.new.src c.args.out.now c.print_answer.new.out (seen c.in-Some.command) c.in-Some.ensures.some c.in_ok-bytes.bytes.items c.print_answer.result (rw c.deref.ensures.value at c.print_answer.ensures)
+returns-clause-words g c = words_were_read g.K.Sink.seen g.S.Source.seen (texts c.args.words.now) c.args.source.now c.read_all.new.src c.args.out.now c.print_answer.new.out (seen c.in-Some.command) c.in-Some.ensures.some c.in_ok-bytes.bytes.items c.print_answer.result (rw c.deref.ensures.value at c.print_answer.ensures.answers)
 
 pub returns-clause-served : goal.returns-clause-served
 returns-clause-served g c =
     served g.K.Sink.seen g.S.Source.seen (texts c.args.words.now) c.args.source.now c.read_all.new.src c.args.out.now c.print_answer.new.out (seen c.in-Some.command) c.in-Some.ensures.some c.in_ok-bytes.bytes.items c.print_answer.result
-    c.in_ok-bytes.ensures.bytes c.in_ok-bytes.ensures.end c.in_ok-bytes.ensures.within (rw c.deref.ensures.value at c.print_answer.ensures)
+    c.in_ok-bytes.ensures.bytes c.in_ok-bytes.ensures.end c.in_ok-bytes.ensures.within (rw c.deref.ensures.value at c.print_answer.ensures.answers)

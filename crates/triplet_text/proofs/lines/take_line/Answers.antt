@@ -26,3 +26,6 @@ pub returns-in-Err-NotUnimodular-clause-fault : goal.returns-in-Err-NotUnimodula
 returns-in-Err-NotUnimodular-clause-fault c =
     let not_unimodular = rw c.in-Err-NotUnimodular.field-0-is at c.in-Err-NotUnimodular.ensures.not_unimodular in
     (refl, record { kept = not_skipped _ _ c.is_skipped_line.ensures c.if-is_skipped_line.false; operator = numbers c.in-Some.raw; triplet = c.in-Some.ensures.some; not_unimodular = not_unimodular.0 refl })
+
+pub returns-in-Err-NoMemory-clause-fault : goal.returns-in-Err-NoMemory-clause-fault
+returns-in-Err-NoMemory-clause-fault c = record { kept = not_skipped _ _ c.is_skipped_line.ensures c.if-is_skipped_line.false; operator = numbers c.in-Some.raw; triplet = c.in-Some.ensures.some }
