@@ -1,5 +1,5 @@
 -- The sizes of the numbers of a point that is in range, and of its images: the machine keeps them.
-use Rattle.std.proofs.Common.{◌≡◌, ◌≤◌, ◌*◌, ◌^◌, ℕ, ℤ, pos, ◌≤ℤ◌, ◌<ℤ◌, unsigned_abs, arith, mul-le-mul, le_refl, le_trans}
+use Rattle.std.proofs.Common.{◌≡◌, ◌≤◌, ◌+◌, ◌*◌, ◌^◌, ℕ, ℤ, pos, ◌≤ℤ◌, ◌<ℤ◌, unsigned_abs, arith, mul-le-mul, le_refl, le_trans}
 use Rattle.std.proofs.lemmas.Int.{ints}
 use mir.Syntax.{w128}
 use Rattle.lattice_algebra.specs.Operator.{AreWithin}
@@ -14,9 +14,13 @@ denominator_bound = UNIT * MAX_DENOMINATOR ^ 3
 abbrev pub numerator_bound : ℕ
 numerator_bound = MAX_COORDINATE * denominator_bound
 
+-- of a coordinate of an image, in cells: three entries within 2, and less than one cell
+abbrev pub image_limit : ℕ
+image_limit = 6 * MAX_COORDINATE + 1
+
 -- of a numerator of an image
 abbrev pub image_bound : ℕ
-image_bound = 7 * MAX_COORDINATE * denominator_bound
+image_bound = image_limit * denominator_bound
 
 size_of_denominator : (d : ℤ) → pos 0 <ℤ d → d ≤ℤ pos denominator_bound → unsigned_abs d ≤ denominator_bound
 size_of_denominator d p q = omega (arith, ints)
@@ -41,5 +45,5 @@ kept_denominator p r = kept w128 denominator_bound p.d (denominator_within p r) 
 pub kept_numerator : (x : ℤ) → unsigned_abs x ≤ numerator_bound → back w128 x ≡ x
 kept_numerator x h = kept w128 numerator_bound x h tt
 
-pub kept_image : (p : Point) (x : ℤ) → IsPointInRange p → unsigned_abs x ≤ 7 * MAX_COORDINATE * unsigned_abs p.d → back w128 x ≡ x
-kept_image p x r h = kept w128 image_bound x (numerator_within (7 * MAX_COORDINATE) p x r h) tt
+pub kept_image : (p : Point) (x : ℤ) → IsPointInRange p → unsigned_abs x ≤ image_limit * unsigned_abs p.d → back w128 x ≡ x
+kept_image p x r h = kept w128 image_bound x (numerator_within image_limit p x r h) tt

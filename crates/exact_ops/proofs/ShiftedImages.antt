@@ -13,7 +13,7 @@ use Rattle.exact_ops.specs.declared.TheConstants.{UNIT, MAX_COORDINATE, MAX_SHIF
 use Rattle.exact_ops.specs.Points.{point_with, IsPointInRange}
 use Rattle.exact_ops.specs.Moves.{map_with, IsShiftInRange}
 use Rattle.exact_ops.proofs.Narrow.{some_parts}
-use Rattle.exact_ops.proofs.Bounds.{denominator_bound, kept_denominator, kept_image}
+use Rattle.exact_ops.proofs.Bounds.{denominator_bound, image_limit, kept_denominator, kept_image}
 
 -- a number of a list
 abbrev pub at : List ℤ → ℕ → ℤ
@@ -23,7 +23,7 @@ at l i = slice_index_or l i (pos 0)
 abbrev pub IsShifted : ℤ → ℤ → ℤ → ℤ → Type 0
 IsShifted n k d r = r ≡ back w128 n +ℤ back w64 k *ℤ back w128 d
 
-shifted_is : (n k : ℤ) (p : Point) (r : ℤ) → IsPointInRange p → unsigned_abs n ≤ 7 * MAX_COORDINATE * unsigned_abs p.d → unsigned_abs k ≤ MAX_SHIFT → FitsSigned w128 r → IsShifted n k p.d r → back w128 r ≡ n +ℤ p.d *ℤ k
+shifted_is : (n k : ℤ) (p : Point) (r : ℤ) → IsPointInRange p → unsigned_abs n ≤ image_limit * unsigned_abs p.d → unsigned_abs k ≤ MAX_SHIFT → FitsSigned w128 r → IsShifted n k p.d r → back w128 r ≡ n +ℤ p.d *ℤ k
 shifted_is n k p r i h l f e =
     read w128 r (n +ℤ p.d *ℤ k) f (e ∙ (λ j. kept_image p n i h j +ℤ kept w64 MAX_SHIFT k l tt j *ℤ kept_denominator p i j) ∙ ap (λ v. n +ℤ v) (*ℤ_comm k p.d))
 
@@ -31,7 +31,7 @@ shifted_is n k p r i h l f e =
 abbrev shifted_point : List ℤ → List ℤ → ℤ → Point
 shifted_point r s d = record { n = column_of r +ᶜ times d (column_of s); d = d }
 
-computed_point : (r s : List ℤ) (p : Point) (x y z : ℤ) → IsPointInRange p → HasCoordinatesWithin (7 * MAX_COORDINATE) (point_with r p.d) → IsShiftInRange (column_of s) → (FitsSigned w128 x) × (FitsSigned w128 y) × (FitsSigned w128 z)
+computed_point : (r s : List ℤ) (p : Point) (x y z : ℤ) → IsPointInRange p → HasCoordinatesWithin image_limit (point_with r p.d) → IsShiftInRange (column_of s) → (FitsSigned w128 x) × (FitsSigned w128 y) × (FitsSigned w128 z)
     → IsShifted (at r 0) (at s 0) p.d x → IsShifted (at r 1) (at s 1) p.d y → IsShifted (at r 2) (at s 2) p.d z
     → point_with (back w128 x ∷ back w128 y ∷ back w128 z ∷ []) (back w128 p.d) ≡ shifted_point r s p.d
 unfolding ◌+ᶜ◌ times
@@ -60,7 +60,7 @@ IsShiftedImage-computed f r s p h e =
     let g = image-shifted UNIT f (column_of s) (column_of r) p e in
     record { denominator = refl; equal = g; range = same_range f s p (shifted_point r s p.d) h h g }
 
-pub applied : (f : Operator) (r s : List ℤ) (p : Point) (x y z : ℤ) → IsPointInRange p → point_with r p.d ≈ image UNIT (map_of f) p → HasCoordinatesWithin (7 * MAX_COORDINATE) (point_with r p.d) → IsShiftInRange (column_of s)
+pub applied : (f : Operator) (r s : List ℤ) (p : Point) (x y z : ℤ) → IsPointInRange p → point_with r p.d ≈ image UNIT (map_of f) p → HasCoordinatesWithin image_limit (point_with r p.d) → IsShiftInRange (column_of s)
     → (FitsSigned w128 x) × (FitsSigned w128 y) × (FitsSigned w128 z) → IsShifted (at r 0) (at s 0) p.d x → IsShifted (at r 1) (at s 1) p.d y → IsShifted (at r 2) (at s 2) p.d z
     → IsShiftedImage f s p (point_with (back w128 x ∷ back w128 y ∷ back w128 z ∷ []) (back w128 p.d))
 applied f r s p x y z i e h k l m n o = subst (IsShiftedImage f s p) (sym (computed_point r s p x y z i h k l m n o)) (IsShiftedImage-computed f r s p i.positive e)

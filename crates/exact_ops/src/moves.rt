@@ -67,11 +67,11 @@ impl Move {
 
 /// A numerator over d, shifted by whole cells.
 fn shifted(n: i128, shift: i64, d: i128) -> i128
-    requires numerator { unsigned_abs n ≤ 7 * COORDINATE_LIMIT * (UNIT * MAX_DENOMINATOR ^ 3) }
+    requires numerator { unsigned_abs n ≤ (6 * COORDINATE_LIMIT + 1) * (UNIT * MAX_DENOMINATOR ^ 3) }
     requires shift { unsigned_abs shift ≤ SHIFT_LIMIT }
     requires denominator { unsigned_abs d ≤ UNIT * MAX_DENOMINATOR ^ 3 }
     ensures value { result ≡ n +ℤ shift *ℤ d }
-    ensures size { unsigned_abs result ≤ (7 * COORDINATE_LIMIT + SHIFT_LIMIT) * (UNIT * MAX_DENOMINATOR ^ 3) }
+    ensures size { unsigned_abs result ≤ (6 * COORDINATE_LIMIT + 1 + SHIFT_LIMIT) * (UNIT * MAX_DENOMINATOR ^ 3) }
 {
     n + i128::from(shift) * d
 }

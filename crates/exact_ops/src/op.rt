@@ -1,4 +1,4 @@
-ghost use Rattle.std.specs.Prelude.{◌≡◌, ◌*◌, ◌↔◌, IsSome, IfSome, IsOk, IfOk, IsErrOf};
+ghost use Rattle.std.specs.Prelude.{◌≡◌, ◌+◌, ◌*◌, ◌↔◌, IsSome, IfSome, IsOk, IfOk, IsErrOf};
 ghost use Rattle.lattice_algebra.specs.Matrix.{entries, coordinates, matrix_of, column_of, IsUnimodular, ◌·◌};
 ghost use Rattle.lattice_algebra.specs.Operator.{Operator, identity_operator, product, IsInverse, AreWithin, HasEntriesWithin};
 ghost use Rattle.lattice_algebra.specs.Map.{map_of, ◌∘◌, IsShift};
@@ -98,7 +98,7 @@ impl Op {
     /// leave the range of a Point.
     pub fn image_of(&self, p: &Point) -> [i128; 3]
         ensures value { point_with result p.now.d ≈ image PARTS (map_of self.now) (point_in p.now) }
-        ensures within { HasCoordinatesWithin (7 * MAX_COORDINATE) (point_with result p.now.d) }
+        ensures within { HasCoordinatesWithin (6 * MAX_COORDINATE + 1) (point_with result p.now.d) }
     {
         let w = &self.w;
         let t = &self.t;

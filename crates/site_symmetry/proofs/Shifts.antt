@@ -16,7 +16,7 @@ use Rattle.exact_ops.specs.declared.TheConstants.{UNIT, MAX_COORDINATE}
 use Rattle.exact_ops.specs.Narrow.{IsNarrow}
 use Rattle.exact_ops.specs.Points.{IsPointInRange}
 use Rattle.exact_ops.proofs.Narrow.{some_parts}
-use Rattle.exact_ops.proofs.Bounds.{numerator_bound, image_bound, numerator_within, kept_denominator}
+use Rattle.exact_ops.proofs.Bounds.{numerator_bound, image_limit, image_bound, numerator_within, kept_denominator}
 use Rattle.group_closure.specs.GroupList.{IsGroup}
 use Rattle.group_closure.proofs.Places.{contains_at, same_at}
 use Rattle.space_groups.specs.Space.{IsInSite}
@@ -92,10 +92,10 @@ fixing_of_shifts f p r k h e a = (fixed_by_shift f p r k h e).1 (column_of_shift
 pub record AreNear (p : Point) (n r : ℤ) : Type 0 where
   pub range : IsPointInRange p
   pub given : unsigned_abs n ≤ MAX_COORDINATE * unsigned_abs p.d
-  pub image : unsigned_abs r ≤ 7 * MAX_COORDINATE * unsigned_abs p.d
+  pub image : unsigned_abs r ≤ image_limit * unsigned_abs p.d
 
 abbrev pub IsNearImage : Point → Column → Type 0
-IsNearImage p r = HasCoordinatesWithin (7 * MAX_COORDINATE) (record { n = r; d = p.d })
+IsNearImage p r = HasCoordinatesWithin image_limit (record { n = r; d = p.d })
 
 pub near_x : (p : Point) (r : Column) → IsPointInRange p → IsNearImage p r → AreNear p p.n.x r.x
 near_x p r h k = record { range = h; given = h.within.first; image = k.first }
@@ -110,7 +110,7 @@ abbrev bounds : List ℕ
 bounds = numerator_bound ∷ image_bound ∷ []
 
 within : (p : Point) (n r : ℤ) → AreNear p n r → IsWithin bounds (n ∷ r ∷ [])
-within p n r h = (numerator_within MAX_COORDINATE p n h.range h.given, (numerator_within (7 * MAX_COORDINATE) p r h.range h.image, tt))
+within p n r h = (numerator_within MAX_COORDINATE p n h.range h.given, (numerator_within image_limit p r h.range h.image, tt))
 
 pub fits_difference : (p : Point) (n r : ℤ) → AreNear p n r → FitsSigned w128 (back w128 n -ℤ back w128 r)
 fits_difference p n r h = fits w128 bounds (n ∷ r ∷ []) (var 0 ⊖ var 1) (within p n r h) tt
@@ -121,10 +121,10 @@ difference n r = back w128 (back w128 n -ℤ back w128 r)
 pub difference_value : (p : Point) (n r : ℤ) → AreNear p n r → difference n r ≡ n -ℤ r
 difference_value p n r h = computed w128 bounds (n ∷ r ∷ []) (var 0 ⊖ var 1) (within p n r h) tt
 
-sum_of_sizes : (m a b d : ℕ) → a ≤ m * d → b ≤ 7 * m * d → a + b ≤ 8 * m * d
+sum_of_sizes : (m a b d : ℕ) → a ≤ m * d → b ≤ (6 * m + 1) * d → a + b ≤ (7 * m + 1) * d
 sum_of_sizes m a b d h k = omega (arith, h, k)
 
-pub difference_within : (p : Point) (n r : ℤ) → AreNear p n r → unsigned_abs (difference n r) ≤ 8 * MAX_COORDINATE * unsigned_abs (back w128 p.d)
+pub difference_within : (p : Point) (n r : ℤ) → AreNear p n r → unsigned_abs (difference n r) ≤ (7 * MAX_COORDINATE + 1) * unsigned_abs (back w128 p.d)
 difference_within p n r h =
     rw (difference_value p n r h) (rw (kept_denominator p h.range) (le_trans (abs_sub n r) (sum_of_sizes MAX_COORDINATE (unsigned_abs n) (unsigned_abs r) (unsigned_abs p.d) h.given h.image)))
 
@@ -134,11 +134,11 @@ multiple_computed p n r k h e = difference_value p n r h ∙ e ∙ ap (λ d. k *
 
 -- and that it stores
 abbrev pub IsFound : Point → ℤ → ℤ → ℤ → Type 0
-IsFound p n r k = (difference n r ≡ k *ℤ back w128 p.d) × (unsigned_abs k ≤ 8 * MAX_COORDINATE)
+IsFound p n r k = (difference n r ≡ k *ℤ back w128 p.d) × (unsigned_abs k ≤ 7 * MAX_COORDINATE + 1)
 
 multiple_stored : (p : Point) (n r k : ℤ) → AreNear p n r → IsFound p n r k → n -ℤ r ≡ back w64 k *ℤ p.d
 multiple_stored p n r k h e =
-    sym (difference_value p n r h) ∙ e.0 ∙ ap (λ d. k *ℤ d) (kept_denominator p h.range) ∙ ap (λ j. j *ℤ p.d) (sym (kept w64 (8 * MAX_COORDINATE) k e.1 tt))
+    sym (difference_value p n r h) ∙ e.0 ∙ ap (λ d. k *ℤ d) (kept_denominator p h.range) ∙ ap (λ j. j *ℤ p.d) (sym (kept w64 (7 * MAX_COORDINATE + 1) k e.1 tt))
 
 pub shifts_stored : (p : Point) (r : Column) (x y z : ℤ) → IsPointInRange p → IsNearImage p r → IsFound p p.n.x r.x x → IsFound p p.n.y r.y y → IsFound p p.n.z r.z z → AreShifts p.d p.n r (record { x = back w64 x; y = back w64 y; z = back w64 z })
 shifts_stored p r x y z h k a b c = record {

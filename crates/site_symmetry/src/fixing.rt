@@ -1,4 +1,4 @@
-ghost use Rattle.std.specs.Prelude.{◌≡◌, ◌<◌, ◌≤◌, ◌*◌, ◌↔◌, List, ℤ, pos, ◌*ℤ◌, ◌<ℤ◌, unsigned_abs, Some, IsSome, IfSome, length, slice_get};
+ghost use Rattle.std.specs.Prelude.{◌≡◌, ◌<◌, ◌≤◌, ◌+◌, ◌*◌, ◌↔◌, List, ℤ, pos, ◌*ℤ◌, ◌<ℤ◌, unsigned_abs, Some, IsSome, IfSome, length, slice_get};
 ghost use Rattle.lattice_algebra.specs.Operator.{Operator};
 ghost use Rattle.lattice_algebra.specs.Map.{Map};
 ghost use Rattle.exact_ops.specs.Numbers.{point_in};
@@ -46,9 +46,9 @@ pub fn order_at(g: &Group, p: &Point) -> u16
 /// n / d, where it is whole.
 fn whole_cells(n: i128, d: i128) -> Option<i64>
     requires positive { pos 0 <ℤ d }
-    requires near { unsigned_abs n ≤ 8 * MAX_COORDINATE * unsigned_abs d }
+    requires near { unsigned_abs n ≤ (7 * MAX_COORDINATE + 1) * unsigned_abs d }
     ensures some { IsSome result ↔ ((k : ℤ) × (n ≡ k *ℤ d)) }
-    ensures value { IfSome result (λ k. (n ≡ k *ℤ d) × (unsigned_abs k ≤ 8 * MAX_COORDINATE)) }
+    ensures value { IfSome result (λ k. (n ≡ k *ℤ d) × (unsigned_abs k ≤ 7 * MAX_COORDINATE + 1)) }
 {
     if n % d != 0 {
         return None;
