@@ -14,6 +14,11 @@ pub fn order_times_multiplicity()
         → IsSiteList UNIT members x site → IsOrbitList UNIT members x orbit → length site * length orbit ≡ length members }
 {}
 
+/// Each rational point has an orbit in the cell.
+pub fn some_orbit()
+    ensures { (members : List Operator) (x : Point) → IsGroup members → IsPoint x → (orbit : List Point) × IsOrbitList UNIT members x orbit }
+{}
+
 /// Each rational point whose denominator is a positive multiple of `UNIT` has an orbit over that denominator, in order.
 pub fn orbit_of_point()
     ensures { (members : List Operator) (x : Point) → IsGroup members → IsScaled x → (orbit : List Point) × IsOrderedOrbit members x orbit }
