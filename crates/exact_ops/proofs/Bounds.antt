@@ -1,12 +1,24 @@
 -- The sizes of the numbers of a point that is in range, and of its images: the machine keeps them.
-use Rattle.std.proofs.Common.{◌≡◌, ◌≤◌, ◌+◌, ◌*◌, ◌^◌, ℕ, ℤ, pos, ◌≤ℤ◌, ◌<ℤ◌, unsigned_abs, arith, mul-le-mul, le_refl, le_trans}
+use Rattle.std.proofs.Common.{◌≡◌, ◌≤◌, ◌+◌, ◌*◌, ◌^◌, ℕ, ℤ, pos, ◌≤ℤ◌, ◌<ℤ◌, unsigned_abs, T, ltb, sym, subst, arith, mul-le-mul, le_refl, le_trans}
 use Rattle.std.proofs.lemmas.Int.{ints}
 use mir.Syntax.{w128}
+use mir.Val.{hbits}
+use Rattle.std.specs.Int.{Width}
 use Rattle.lattice_algebra.specs.Operator.{AreWithin}
 use Rattle.lattice_algebra.specs.Point.{Point}
 use Rattle.lattice_algebra.proofs.Machine.{back, kept}
 use Rattle.exact_ops.specs.declared.TheConstants.{UNIT, MAX_COORDINATE, MAX_DENOMINATOR}
 use Rattle.exact_ops.specs.Points.{IsPointInRange}
+
+-- ---- numbers that were passed on
+
+pub passed : (w : Width) (n : ℕ) (x : ℤ) → unsigned_abs x ≤ n → T (ltb n (2 ^ hbits w)) → unsigned_abs (back w x) ≤ n
+passed w n x h t = subst (λ v. unsigned_abs v ≤ n) (sym (kept w n x h t)) h
+
+pub three_passed : (w : Width) (n : ℕ) (a b c : ℤ) → AreWithin n a b c → T (ltb n (2 ^ hbits w)) → AreWithin n (back w a) (back w b) (back w c)
+three_passed w n a b c h t = record { first = passed w n a h.first t; second = passed w n b h.second t; third = passed w n c h.third t }
+
+-- ---- the numbers of a point
 
 abbrev pub denominator_bound : ℕ
 denominator_bound = UNIT * MAX_DENOMINATOR ^ 3

@@ -15,7 +15,7 @@ use Rattle.exact_ops.specs.declared.TheConstants.{UNIT, MAX_COORDINATE, MAX_DENO
 use Rattle.exact_ops.specs.Narrow.{IsNarrow}
 use Rattle.exact_ops.specs.Points.{point_with, IsPointInRange}
 use Rattle.exact_ops.proofs.Narrow.{AreWithin-parts}
-use Rattle.exact_ops.proofs.Bounds.{denominator_bound, numerator_bound, image_limit, denominator_within, numerators_within, kept_denominator, kept_numerator}
+use Rattle.exact_ops.proofs.Bounds.{denominator_bound, numerator_bound, image_limit, denominator_within, numerators_within, kept_denominator, kept_numerator, passed}
 
 -- ---- one part of a cell
 
@@ -48,18 +48,6 @@ IsUnitPart-computed p u r e = subst (IsUnitPart p.d) (sym (unit_part_is p u r e)
 
 pub unit_part_size : (p : Point) (u : ℤ) → IsPointInRange p → u ≡ pos UNIT → unsigned_abs (unit_part p.d u) ≤ MAX_DENOMINATOR ^ 3
 unit_part_size p u r e = part_within p.d (unit_part p.d u) (IsUnitPart-computed p u r e) (denominator_within p r)
-
--- ---- numbers that were passed on
-
-pub kept_size : (n : ℕ) (x y : ℤ) → x ≡ y → unsigned_abs y ≤ n → unsigned_abs x ≤ n
-kept_size n x y e h = subst (λ v. unsigned_abs v ≤ n) (sym e) h
-
-pub kept_within : (x y z : ℤ) → AreWithin numerator_bound x y z → AreWithin numerator_bound (back w128 x) (back w128 y) (back w128 z)
-kept_within x y z h = record {
-  first = kept_size numerator_bound _ x (kept_numerator x h.first) h.first;
-  second = kept_size numerator_bound _ y (kept_numerator y h.second) h.second;
-  third = kept_size numerator_bound _ z (kept_numerator z h.third) h.third;
-}
 
 -- ---- the image
 
@@ -143,7 +131,4 @@ pub image_within : (f : Operator) (p : Point) (u : ℤ) (q : Point) → IsNarrow
 image_within f p u q n r e g = subst (HasCoordinatesWithin image_limit) (sym g) (numerators_within_image f p.n p.d (unit_part p.d u) n.within_two (AreWithin-parts f.t n.is_operator.in_cell) r.within (IsUnitPart-computed p u r e))
 
 pub kept_part : (p : Point) (u : ℤ) → IsPointInRange p → u ≡ pos UNIT → unsigned_abs (back w128 (unit_part p.d u)) ≤ MAX_DENOMINATOR ^ 3
-kept_part p u r e = let h = unit_part_size p u r e in kept_size (MAX_DENOMINATOR ^ 3) _ (unit_part p.d u) (kept w128 (MAX_DENOMINATOR ^ 3) (unit_part p.d u) h tt) h
-
-pub kept_translation : (t : ℤ) → unsigned_abs t ≤ UNIT - 1 → unsigned_abs (back w32 t) ≤ UNIT - 1
-kept_translation t h = kept_size (UNIT - 1) _ t (kept w32 (UNIT - 1) t h tt) h
+kept_part p u r e = passed w128 (MAX_DENOMINATOR ^ 3) (unit_part p.d u) (unit_part_size p u r e) tt

@@ -12,7 +12,7 @@ ghost use Rattle.exact_ops.specs.Moves.{map_with, IsShiftInRange};
 
 use crate::UNIT;
 use crate::image::{image_coordinate, shift_coordinate};
-use crate::matrix::{Rotation, Translation};
+use crate::matrix::{Rotation, Vector};
 use crate::point::Point;
 use crate::raw::Raw;
 use std::marker::Model;
@@ -22,7 +22,7 @@ use std::marker::Model;
 #[derive(Clone, Copy, PartialEq, Eq, Debug, Drop)]
 pub struct Op {
     w: Rotation,
-    t: Translation,
+    t: Vector,
 }
 
 impl Model for Op {
@@ -56,7 +56,7 @@ impl Op {
     {
         Op {
             w: Rotation::IDENTITY,
-            t: Translation::ZERO,
+            t: Vector::ZERO,
         }
     }
 
@@ -73,7 +73,7 @@ impl Op {
         if !w.is_within(2) {
             return Err(OpFault::Wide);
         }
-        let t = Translation::of(&raw.t);
+        let t = Vector::of(&raw.t);
         Ok(Op { w, t })
     }
 
@@ -154,6 +154,6 @@ pub fn inverse(a: &Op) -> Option<Op>
     if !w.is_within(2) {
         return None;
     }
-    let t = a.t.negated().moved(&w, &Translation::ZERO);
+    let t = a.t.negated().moved(&w, &Vector::ZERO);
     Some(Op { w, t })
 }

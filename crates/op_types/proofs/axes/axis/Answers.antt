@@ -1,9 +1,8 @@
 use Rattle.std.proofs.Common.{◌≢◌, refl, sym, ap, subst, ◌∙◌}
 use Rattle.std.proofs.lemmas.Bool.{false≢true}
 use Rattle.lattice_algebra.specs.Matrix.{Matrix, matrix_of, column_of, origin}
-use Rattle.exact_ops.specs.Fields.{matrix_in}
+use Rattle.exact_ops.specs.Fields.{matrix_in, column_in}
 use Rattle.op_types.specs.Axis.{IsLine, IsAxis}
-use Rattle.op_types.specs.Vector.{column_in}
 use Rattle.op_types.proofs.Members.{same_part, each_at}
 use Rattle.op_types.proofs.SmallPowers.{small_proper}
 use Rattle.op_types.proofs.FixedColumns.{reduced_axis, along_by, no_line_of_nothing, line_parallel}

@@ -1,6 +1,6 @@
 use Rattle.std.proofs.Common.{ap, ◌∙◌}
 use Rattle.lattice_algebra.specs.Matrix.{matrix_of, column_of}
-use Rattle.op_types.specs.Vector.{column_in}
+use Rattle.exact_ops.specs.Fields.{column_in}
 use Rattle.op_types.proofs.SmallPowers.{small_member}
 use Rattle.op_types.proofs.Members.{each_at}
 use Rattle.op_types.proofs.IntrinsicParts.{denominator, intrinsic_part, in_cell}
@@ -9,8 +9,8 @@ use Rattle.op_types.proofs.intrinsic_part.intrinsic.Goals as goal
 pub cycle_of-turn-requires : goal.cycle_of-turn-requires
 cycle_of-turn-requires c = small_member c.args.g.now c.op-op.result c.args.i _ c.op-op.ensures.group c.op-op.ensures.value (c.of.ensures ∙ ap matrix_of c.w.ensures.value)
 
-pub image-requires-clause-right : goal.image-requires-clause-right
-image-requires-clause-right c = in_cell c.op-op.result (column_in c.of-2.result) c.t.ensures.narrow (c.of-2.ensures ∙ ap column_of c.t.ensures.value)
+pub image-requires-clause-vector : goal.image-requires-clause-vector
+image-requires-clause-vector c = in_cell c.op-op.result (column_in c.of-2.result) c.t.ensures.narrow (c.of-2.ensures ∙ ap column_of c.t.ensures.value)
 
 pub returns : goal.returns
 returns c =

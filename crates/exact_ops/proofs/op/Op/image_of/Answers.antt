@@ -1,20 +1,21 @@
-use Rattle.std.proofs.Common.{rules, FitsSigned}
+use Rattle.std.proofs.Common.{◌-◌, rules, w32, FitsSigned}
 use mir.Syntax.{w128}
+use Rattle.exact_ops.specs.declared.TheConstants.{UNIT}
 use Rattle.exact_ops.specs.Fields.{operator_in}
 use Rattle.exact_ops.specs.Numbers.{point_in}
 use Rattle.exact_ops.proofs.Narrow.{AreWithin-parts}
-use Rattle.exact_ops.proofs.Bounds.{numerators_within}
-use Rattle.exact_ops.proofs.Images.{kept_within, kept_part, kept_translation, image_is, image_equals, image_within}
+use Rattle.exact_ops.proofs.Bounds.{numerator_bound, numerators_within, passed, three_passed}
+use Rattle.exact_ops.proofs.Images.{kept_part, image_is, image_equals, image_within}
 use Rattle.exact_ops.proofs.op.Op.image_of.Goals as goal
 
 pub image_coordinate-requires-clause-point : goal.image_coordinate-requires-clause-point
-image_coordinate-requires-clause-point c = kept_within _ _ _ (numerators_within (point_in c.args.p.now) c.args.p.now.in_range)
+image_coordinate-requires-clause-point c = three_passed w128 numerator_bound _ _ _ (numerators_within (point_in c.args.p.now) c.args.p.now.in_range) tt
 
 pub image_coordinate-requires-2-clause-point : goal.image_coordinate-requires-2-clause-point
-image_coordinate-requires-2-clause-point c = kept_within _ _ _ (numerators_within (point_in c.args.p.now) c.args.p.now.in_range)
+image_coordinate-requires-2-clause-point c = three_passed w128 numerator_bound _ _ _ (numerators_within (point_in c.args.p.now) c.args.p.now.in_range) tt
 
 pub image_coordinate-requires-3-clause-point : goal.image_coordinate-requires-3-clause-point
-image_coordinate-requires-3-clause-point c = kept_within _ _ _ (numerators_within (point_in c.args.p.now) c.args.p.now.in_range)
+image_coordinate-requires-3-clause-point c = three_passed w128 numerator_bound _ _ _ (numerators_within (point_in c.args.p.now) c.args.p.now.in_range) tt
 
 pub image_coordinate-requires-2-clause-part : goal.image_coordinate-requires-2-clause-part
 image_coordinate-requires-2-clause-part c = kept_part (point_in c.args.p.now) c.from.result c.args.p.now.in_range c.from.ensures
@@ -23,10 +24,10 @@ pub image_coordinate-requires-3-clause-part : goal.image_coordinate-requires-3-c
 image_coordinate-requires-3-clause-part c = kept_part (point_in c.args.p.now) c.from.result c.args.p.now.in_range c.from.ensures
 
 pub image_coordinate-requires-2-clause-translation : goal.image_coordinate-requires-2-clause-translation
-image_coordinate-requires-2-clause-translation c = kept_translation c.self.inside.t.y (AreWithin-parts _ c.self.invariant.is_operator.in_cell).second
+image_coordinate-requires-2-clause-translation c = passed w32 (UNIT - 1) c.self.inside.t.y (AreWithin-parts _ c.self.invariant.is_operator.in_cell).second tt
 
 pub image_coordinate-requires-3-clause-translation : goal.image_coordinate-requires-3-clause-translation
-image_coordinate-requires-3-clause-translation c = kept_translation c.self.inside.t.z (AreWithin-parts _ c.self.invariant.is_operator.in_cell).third
+image_coordinate-requires-3-clause-translation c = passed w32 (UNIT - 1) c.self.inside.t.z (AreWithin-parts _ c.self.invariant.is_operator.in_cell).third tt
 
 pub returns-clause-value : goal.returns-clause-value
 returns-clause-value c =
