@@ -1,9 +1,10 @@
 -- The sizes of the numbers of a point that is in range, and of its images: the machine keeps them.
 use Rattle.std.proofs.Common.{◌≡◌, ◌≤◌, ◌+◌, ◌*◌, ◌^◌, ℕ, ℤ, pos, ◌≤ℤ◌, ◌<ℤ◌, unsigned_abs, T, ltb, sym, subst, arith, mul-le-mul, le_refl, le_trans}
 use Rattle.std.proofs.lemmas.Int.{ints}
-use mir.Syntax.{w128}
+use mir.Syntax.{w32, w128}
 use mir.Val.{hbits}
 use Rattle.std.specs.Int.{Width}
+use Rattle.lattice_algebra.specs.Matrix.{sum_of_products}
 use Rattle.lattice_algebra.specs.Operator.{AreWithin}
 use Rattle.lattice_algebra.specs.Point.{Point}
 use Rattle.lattice_algebra.proofs.Machine.{back, kept}
@@ -17,6 +18,12 @@ passed w n x h t = subst (λ v. unsigned_abs v ≤ n) (sym (kept w n x h t)) h
 
 pub three_passed : (w : Width) (n : ℕ) (a b c : ℤ) → AreWithin n a b c → T (ltb n (2 ^ hbits w)) → AreWithin n (back w a) (back w b) (back w c)
 three_passed w n a b c h t = record { first = passed w n a h.first t; second = passed w n b h.second t; third = passed w n c h.third t }
+
+-- a row and a column
+pub products_passed : (m n : ℕ) (a b c x y z : ℤ) → AreWithin m a b c → AreWithin n x y z → T (ltb m (2 ^ 31)) → T (ltb n (2 ^ 31))
+    → sum_of_products (back w32 a) (back w32 b) (back w32 c) (back w32 x) (back w32 y) (back w32 z) ≡ sum_of_products a b c x y z
+products_passed m n a b c x y z h k s t =
+    λ i. sum_of_products (kept w32 m a h.first s i) (kept w32 m b h.second s i) (kept w32 m c h.third s i) (kept w32 n x k.first t i) (kept w32 n y k.second t i) (kept w32 n z k.third t i)
 
 -- ---- the numbers of a point
 

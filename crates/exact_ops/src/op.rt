@@ -96,14 +96,14 @@ impl Op {
 
     /// The numerators of the image of a point, over the denominator of the point. They are exact and not reduced, and can
     /// leave the range of a Point.
-    pub fn image_of(&self, p: &Point) -> [i128; 3]
-        ensures value { point_with result p.now.d ≈ image PARTS (map_of self.now) (point_in p.now) }
-        ensures within { HasCoordinatesWithin (6 * MAX_COORDINATE + 1) (point_with result p.now.d) }
+    pub fn image_of(&self, point: &Point) -> [i128; 3]
+        ensures value { point_with result point.now.d ≈ image PARTS (map_of self.now) (point_in point.now) }
+        ensures within { HasCoordinatesWithin (6 * MAX_COORDINATE + 1) (point_with result point.now.d) }
     {
         let w = &self.w;
         let t = &self.t;
-        let [x, y, z] = p.n;
-        let part = p.d / i128::from(UNIT);
+        let [x, y, z] = point.n;
+        let part = point.d / i128::from(UNIT);
         [
             image_coordinate(w.xx, w.xy, w.xz, t.x, x, y, z, part),
             image_coordinate(w.yx, w.yy, w.yz, t.y, x, y, z, part),
