@@ -203,7 +203,8 @@ impl Vector {
         requires narrow { HasEntriesWithin 2 (matrix_in w.now) }
         requires from { AreWithin (UNIT - 1) self.now.x self.now.y self.now.z }
         requires by { AreWithin (UNIT - 1) t.now.x t.now.y t.now.z }
-        ensures { column_in result ≡ modulo UNIT (matrix_in w.now ·ᶜ column_in self.now +ᶜ column_in t.now) }
+        ensures { column_in result
+            ≡ modulo UNIT (matrix_in w.now ·ᶜ column_in self.now +ᶜ column_in t.now) }
     {
         Vector {
             x: place(w.xx, w.xy, w.xz, self.x, self.y, self.z, t.x),
@@ -217,7 +218,9 @@ impl Vector {
         requires narrow { HasEntriesWithin 2 (matrix_in w.now) }
         requires from { AreWithin (UNIT - 1) self.now.x self.now.y self.now.z }
         requires by { AreWithin (UNIT - 1) t.now.x t.now.y t.now.z }
-        ensures value { matrix_in w.now ·ᶜ column_in self.now +ᶜ column_in t.now ≡ modulo UNIT (matrix_in w.now ·ᶜ column_in self.now +ᶜ column_in t.now) +ᶜ times (pos UNIT) (column_in result) }
+        ensures value { matrix_in w.now ·ᶜ column_in self.now +ᶜ column_in t.now
+            ≡ modulo UNIT (matrix_in w.now ·ᶜ column_in self.now +ᶜ column_in t.now)
+            +ᶜ times (pos UNIT) (column_in result) }
         ensures size { AreWithin 7 result.x result.y result.z }
     {
         Vector {
@@ -259,7 +262,8 @@ fn dot(a: i32, b: i32, c: i32, x: i32, y: i32, z: i32) -> i32
     requires left { AreWithin MAX_ENTRY a b c }
     requires right { AreWithin MAX_ENTRY x y z }
     ensures value { result ≡ sum_of_products a b c x y z }
-    ensures size { (m n : ℕ) → AreWithin m a b c → AreWithin n x y z → unsigned_abs result ≤ 3 * (m * n) }
+    ensures size { (m n : ℕ) → AreWithin m a b c → AreWithin n x y z
+        → unsigned_abs result ≤ 3 * (m * n) }
 {
     a * x + b * y + c * z
 }

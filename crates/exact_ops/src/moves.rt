@@ -24,9 +24,11 @@ impl Move {
     /// The image of a point, over the same denominator. None exactly where a coordinate of the image is beyond
     /// `MAX_COORDINATE` in size.
     pub fn apply(&self, point: &Point) -> Option<Point>
-        ensures some { IsSome result ↔ HasCoordinatesWithin COORDINATE_LIMIT (image UNIT (map_with self.now.op self.now.shift) (point_in point.now)) }
+        ensures some { IsSome result ↔ HasCoordinatesWithin COORDINATE_LIMIT
+            (image UNIT (map_with self.now.op self.now.shift) (point_in point.now)) }
         ensures denominator { IfSome result (λ q. q.d ≡ point.now.d) }
-        ensures value { IfSome result (λ q. point_in q ≈ image UNIT (map_with self.now.op self.now.shift) (point_in point.now)) }
+        ensures value { IfSome result (λ q. point_in q
+            ≈ image UNIT (map_with self.now.op self.now.shift) (point_in point.now)) }
     {
         let n = self.image_of(point);
         if !are_coordinates(&n, point.d) {
@@ -38,8 +40,12 @@ impl Move {
     /// Next after self. None exactly where an entry of the product of the matrices lies outside -2..=2, or a whole shift
     /// of the product is beyond `MAX_SHIFT` in size.
     pub fn then(&self, next: &Move) -> Option<Move>
-        ensures some { (k : Column) → IsShift UNIT (map_with next.now.op next.now.shift ∘ map_with self.now.op self.now.shift) k → (IsSome result ↔ (HasEntriesWithin 2 (next.now.op.w · self.now.op.w) × IsShiftInRange k)) }
-        ensures value { IfSome result (λ m. map_with m.op m.shift ≡ map_with next.now.op next.now.shift ∘ map_with self.now.op self.now.shift) }
+        ensures some { (k : Column) → IsShift UNIT
+            (map_with next.now.op next.now.shift ∘ map_with self.now.op self.now.shift) k
+            → (IsSome result
+            ↔ (HasEntriesWithin 2 (next.now.op.w · self.now.op.w) × IsShiftInRange k)) }
+        ensures value { IfSome result (λ m. map_with m.op m.shift
+            ≡ map_with next.now.op next.now.shift ∘ map_with self.now.op self.now.shift) }
     {
         let op = compose(&next.op, &self.op)?;
         let [x, y, z] = next.op.shift_after(&self.op, &self.shift);
@@ -57,7 +63,8 @@ impl Move {
 
     /// The numerators of the image of a point, over the denominator of the point.
     fn image_of(&self, point: &Point) -> [i128; 3]
-        ensures { point_with result point.now.d ≈ image UNIT (map_with self.now.op self.now.shift) (point_in point.now) }
+        ensures { point_with result point.now.d
+            ≈ image UNIT (map_with self.now.op self.now.shift) (point_in point.now) }
     {
         let [x, y, z] = self.op.image_of(point);
         [
@@ -70,11 +77,13 @@ impl Move {
 
 /// A numerator over d, shifted by whole cells.
 fn shifted(n: i128, shift: i64, d: i128) -> i128
-    requires numerator { unsigned_abs n ≤ (6 * COORDINATE_LIMIT + 1) * (UNIT * MAX_DENOMINATOR ^ 3) }
+    requires numerator { unsigned_abs n
+        ≤ (6 * COORDINATE_LIMIT + 1) * (UNIT * MAX_DENOMINATOR ^ 3) }
     requires shift { unsigned_abs shift ≤ SHIFT_LIMIT }
     requires denominator { unsigned_abs d ≤ UNIT * MAX_DENOMINATOR ^ 3 }
     ensures value { result ≡ n +ℤ shift *ℤ d }
-    ensures size { unsigned_abs result ≤ (6 * COORDINATE_LIMIT + 1 + SHIFT_LIMIT) * (UNIT * MAX_DENOMINATOR ^ 3) }
+    ensures size { unsigned_abs result
+        ≤ (6 * COORDINATE_LIMIT + 1 + SHIFT_LIMIT) * (UNIT * MAX_DENOMINATOR ^ 3) }
 {
     n + i128::from(shift) * d
 }

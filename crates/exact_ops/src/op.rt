@@ -63,8 +63,10 @@ impl Op {
     /// The operator with the numbers of a Raw.
     pub fn of(raw: &Raw) -> Result<Op, OpFault>
         ensures value { IfOk result (λ op. op ≡ numbers_of raw.now.w raw.now.t) }
-        ensures ok { IsOk result ↔ (IsUnimodular (matrix_of raw.now.w) × HasEntriesWithin 2 (matrix_of raw.now.w)) }
-        ensures not_unimodular { IsErrOf result OpFault.NotUnimodular ↔ (¬ IsUnimodular (matrix_of raw.now.w)) }
+        ensures ok { IsOk result
+            ↔ (IsUnimodular (matrix_of raw.now.w) × HasEntriesWithin 2 (matrix_of raw.now.w)) }
+        ensures not_unimodular { IsErrOf result OpFault.NotUnimodular
+            ↔ (¬ IsUnimodular (matrix_of raw.now.w)) }
     {
         let w = Rotation::of(&raw.w);
         if !raw.unimodular() {
@@ -97,8 +99,10 @@ impl Op {
     /// The numerators of the image of a point, over the denominator of the point. They are exact and not reduced, and can
     /// leave the range of a Point.
     pub fn image_of(&self, point: &Point) -> [i128; 3]
-        ensures value { point_with result point.now.d ≈ image PARTS (map_of self.now) (point_in point.now) }
-        ensures within { HasCoordinatesWithin (6 * MAX_COORDINATE + 1) (point_with result point.now.d) }
+        ensures value { point_with result point.now.d
+            ≈ image PARTS (map_of self.now) (point_in point.now) }
+        ensures within { HasCoordinatesWithin (6 * MAX_COORDINATE + 1)
+            (point_with result point.now.d) }
     {
         let w = &self.w;
         let t = &self.t;
@@ -115,8 +119,10 @@ impl Op {
     /// translation has beside that of `compose`.
     pub fn shift_after(&self, first: &Op, shift: &[i64; 3]) -> [i64; 3]
         requires { IsShiftInRange (column_of shift.now) }
-        ensures value { IsShift PARTS (map_of self.now ∘ map_with first.now shift.now) (column_of result) }
-        ensures within { AreWithin (7 * MAX_SHIFT) (column_of result).x (column_of result).y (column_of result).z }
+        ensures value { IsShift PARTS (map_of self.now ∘ map_with first.now shift.now)
+            (column_of result) }
+        ensures within { AreWithin (7 * MAX_SHIFT) (column_of result).x
+            (column_of result).y (column_of result).z }
     {
         let w = &self.w;
         let carry = first.t.carried(w, &self.t);
@@ -146,7 +152,8 @@ pub fn compose(a: &Op, b: &Op) -> Option<Op>
 /// The inverse of an operator, its translation modulo the cell. None exactly where an entry of the inverse matrix lies
 /// outside -2..=2.
 pub fn inverse(a: &Op) -> Option<Op>
-    ensures some { (g : Operator) → IsInverse UNIT a.now g → (IsSome result ↔ HasEntriesWithin 2 g.w) }
+    ensures some { (g : Operator) → IsInverse UNIT a.now g
+        → (IsSome result ↔ HasEntriesWithin 2 g.w) }
     ensures value { IfSome result (λ op. IsInverse UNIT a.now op) }
 {
     let sign = a.w.sign();

@@ -16,12 +16,14 @@ use group_closure::Group;
 /// The axis of the operator at place i, counted from 0, in whole multiples of the basis: what its proper part fixes. None
 /// exactly where that is not one line. For a mirror or glide plane it is the line across the plane. The numbers have no
 /// common divisor, and the first that is not 0 is positive.
-pub fn axis(g: &Group, i: u8) -> Option<[i32; 3]>
-    requires { i < length g.now }
-    ensures some { (f : Operator) → slice_get g.now i ≡ Some f → (p : Matrix) → IsProperPart f.w p → (IsSome result ↔ IsLine p) }
-    ensures value { (f : Operator) → slice_get g.now i ≡ Some f → (p : Matrix) → IsProperPart f.w p → IfSome result (λ a. IsAxis p (column_of a)) }
+pub fn axis(group: &Group, i: u8) -> Option<[i32; 3]>
+    requires { i < length group.now }
+    ensures some { (f : Operator) → slice_get group.now i ≡ Some f → (p : Matrix)
+        → IsProperPart f.w p → (IsSome result ↔ IsLine p) }
+    ensures value { (f : Operator) → slice_get group.now i ≡ Some f → (p : Matrix)
+        → IsProperPart f.w p → IfSome result (λ a. IsAxis p (column_of a)) }
 {
-    let w = Rotation::of(&g.op(i).w());
+    let w = Rotation::of(&group.op(i).w());
     let turn = cycle_of(&proper_part(&w));
     let along = some_column(&turn.sum);
     if is_origin(&along) {
@@ -55,7 +57,8 @@ fn some_column(m: &Rotation) -> Vector
 fn has_columns_along(m: &Rotation, along: &Vector) -> bool
     requires left { HasEntriesWithin (2 * MAX_OPERATORS) (matrix_in m.now) }
     requires right { AreWithin (2 * MAX_OPERATORS) along.now.x along.now.y along.now.z }
-    ensures { IsTrue result ↔ ((e : Column) → AreParallel (column_in along.now) (matrix_in m.now ·ᶜ e)) }
+    ensures { IsTrue result
+        ↔ ((e : Column) → AreParallel (column_in along.now) (matrix_in m.now ·ᶜ e)) }
 {
     if !are_parallel(along, &x_column(m)) {
         return false;

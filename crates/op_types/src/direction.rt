@@ -66,7 +66,8 @@ fn signed_divisor(v: &Vector) -> i32
     ensures some { result ≢ pos 0 }
     ensures small { unsigned_abs result ≤ 2 * MAX_OPERATORS }
     ensures divides { Divides result (column_in v.now) }
-    ensures greatest { (d : ℤ) → Divides d (column_in v.now) → unsigned_abs d ∣ unsigned_abs result }
+    ensures greatest { (d : ℤ) → Divides d (column_in v.now)
+        → unsigned_abs d ∣ unsigned_abs result }
     ensures directed { (b : Column) → column_in v.now ≡ times result b → IsDirected b }
 {
     if is_directed(v) {
@@ -82,7 +83,8 @@ fn common_divisor(v: &Vector) -> i32
     ensures positive { pos 0 <ℤ result }
     ensures small { unsigned_abs result ≤ 2 * MAX_OPERATORS }
     ensures divides { Divides result (column_in v.now) }
-    ensures greatest { (d : ℤ) → Divides d (column_in v.now) → unsigned_abs d ∣ unsigned_abs result }
+    ensures greatest { (d : ℤ) → Divides d (column_in v.now)
+        → unsigned_abs d ∣ unsigned_abs result }
 {
     let rest = greatest_common_divisor(size(v.y), size(v.z));
     greatest_common_divisor(size(v.x), rest) as i32
@@ -100,7 +102,8 @@ fn have_one_product(a: i32, b: i32, c: i32, d: i32) -> bool
 /// The quotient of a number by a divisor of it.
 fn quotient(n: i32, divisor: i32) -> i32
     requires some { divisor ≢ pos 0 }
-    requires small { (unsigned_abs n ≤ 2 * MAX_OPERATORS) × (unsigned_abs divisor ≤ 2 * MAX_OPERATORS) }
+    requires small { (unsigned_abs n ≤ 2 * MAX_OPERATORS)
+        × (unsigned_abs divisor ≤ 2 * MAX_OPERATORS) }
     requires divides { (q : ℤ) × (n ≡ divisor *ℤ q) }
     ensures { n ≡ divisor *ℤ result }
 {

@@ -19,11 +19,12 @@ pub struct Frac3 {
 /// The intrinsic part of the operator at place i, counted from 0: the screw part of a screw axis, the glide vector of a glide
 /// plane. Its translation is taken in the cell. It is not reduced modulo 1 and can be negative. The order is that of the
 /// matrix itself, also where it is not proper.
-pub fn intrinsic(g: &Group, i: u8) -> Frac3
-    requires { i < length g.now }
-    ensures { (f : Operator) → slice_get g.now i ≡ Some f → IsIntrinsicPart f (column_of result.n) result.d }
+pub fn intrinsic(group: &Group, i: u8) -> Frac3
+    requires { i < length group.now }
+    ensures { (f : Operator) → slice_get group.now i ≡ Some f
+        → IsIntrinsicPart f (column_of result.n) result.d }
 {
-    let op = g.op(i);
+    let op = group.op(i);
     let turn = cycle_of(&Rotation::of(&op.w()));
     Frac3 {
         n: turn.sum.image(&Vector::of(&op.t())).numbers(),

@@ -12,8 +12,10 @@ use site_symmetry::order_at;
 /// How many points the orbit of p has in a cell. The order of the site-symmetry group times it is the number of members of
 /// the group.
 pub fn multiplicity(group: &Group, point: &Point) -> u16
-    ensures value { (orbit : List rational.Point) → IsOrbitList UNIT group.now (point_in point.now) orbit → result ≡ length orbit }
-    ensures law { (site : List Map) → IsSiteList UNIT group.now (point_in point.now) site → length site * result ≡ length group.now }
+    ensures value { (orbit : List rational.Point)
+        → IsOrbitList UNIT group.now (point_in point.now) orbit → result ≡ length orbit }
+    ensures law { (site : List Map) → IsSiteList UNIT group.now (point_in point.now) site
+        → length site * result ≡ length group.now }
 {
     group.len() / order_at(group, point)
 }

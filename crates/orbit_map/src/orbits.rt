@@ -34,9 +34,10 @@ fn image_in_cell(op: &Op, point: &Point) -> Point
     ensures placed { IsPlaced op.now (point_in point.now) (point_in result) }
 {
     let [x, y, z] = op.image_of(point);
+    let d = point.d;
     Point {
-        n: [x.rem_euclid(point.d), y.rem_euclid(point.d), z.rem_euclid(point.d)],
-        d: point.d,
+        n: [x.rem_euclid(d), y.rem_euclid(d), z.rem_euclid(d)],
+        d,
     }
 }
 

@@ -15,7 +15,8 @@ use group_closure::Group;
 /// whole numbers. This is the one that maps p to itself; there is at most one. None exactly where no such shift does.
 pub fn fixes(group: &Group, i: u8, point: &Point) -> Option<Move>
     requires { i < length group.now }
-    ensures some { (f : Operator) → slice_get group.now i ≡ Some f → (IsSome result ↔ SomeElementFixes f (point_in point.now)) }
+    ensures some { (f : Operator) → slice_get group.now i ≡ Some f
+        → (IsSome result ↔ SomeElementFixes f (point_in point.now)) }
     ensures operator { IfSome result (λ m. slice_get group.now i ≡ Some m.op) }
     ensures value { IfSome result (λ m. IsInSite UNIT group.now (point_in point.now) (map_in m)) }
 {
@@ -32,7 +33,8 @@ pub fn fixes(group: &Group, i: u8, point: &Point) -> Option<Move>
 
 /// The order of the site-symmetry group: how many elements of the space group map p to itself.
 pub fn order_at(group: &Group, point: &Point) -> u16
-    ensures { (site : List Map) → IsSiteList UNIT group.now (point_in point.now) site → result ≡ length site }
+    ensures { (site : List Map) → IsSiteList UNIT group.now (point_in point.now) site
+        → result ≡ length site }
 {
     let mut order = 0;
     for i in 0..group.len() {

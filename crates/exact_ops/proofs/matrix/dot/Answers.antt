@@ -38,4 +38,4 @@ three_times x m n h = omega (arith, h)
 pub returns-clause-size : goal.returns-clause-size
 returns-clause-size c =
     λ m n l r. subst (λ v. unsigned_abs v ≤ 3 * (m * n)) (sym (computed w32 (bounds MAX_ENTRY MAX_ENTRY) (numbers c) three (given c) tt))
-        (three_times (unsigned_abs (value (numbers c) three)) m n (value-size (bounds m n) (numbers c) three (within c m n l r)))
+    (three_times (unsigned_abs (value (numbers c) three)) m n (value-size (bounds m n) (numbers c) three (within c m n l r)))
