@@ -2,7 +2,7 @@
 use Rattle.std.specs.Prelude.{◌≡◌, ◌==◌, if◌then◌else◌, Bool, ℕ, ℤ, List, [], ◌∷◌, ◌++◌, Option, Some, None, decimal}
 use Rattle.std.specs.Fmt.{signed_decimal}
 use Rattle.exact_ops.specs.Operator.{Operator}
-use Rattle.op_types.specs.Matrix.{Column}
+use Rattle.lattice_algebra.specs.Matrix.{Column}
 use Rattle.op_types.specs.Types.{OperationType, IsTypeOf}
 use Rattle.triplet_text.specs.Bytes.{line_feed, space, comma, minus_sign}
 use Rattle.triplet_text.specs.Fractions.{frac_text}
