@@ -27,9 +27,11 @@ products_passed m n a b c x y z h k s t =
 
 -- ---- the numbers of a point
 
+-- of a denominator
 abbrev pub denominator_bound : ℕ
 denominator_bound = UNIT * MAX_DENOMINATOR ^ 3
 
+-- of a numerator
 abbrev pub numerator_bound : ℕ
 numerator_bound = MAX_COORDINATE * denominator_bound
 
@@ -44,6 +46,7 @@ image_bound = image_limit * denominator_bound
 size_of_denominator : (d : ℤ) → pos 0 <ℤ d → d ≤ℤ pos denominator_bound → unsigned_abs d ≤ denominator_bound
 size_of_denominator d p q = omega (arith, ints)
 
+-- a denominator in range has its bound
 pub denominator_within : (p : Point) → IsPointInRange p → unsigned_abs p.d ≤ denominator_bound
 denominator_within p r = size_of_denominator p.d r.positive r.denominator
 
@@ -58,6 +61,7 @@ numerators_within p r = record {
   third = numerator_within MAX_COORDINATE p p.n.z r r.within.third;
 }
 
+-- and the machine keeps it, as it keeps a numerator and a numerator of an image
 pub kept_denominator : (p : Point) → IsPointInRange p → back w128 p.d ≡ p.d
 kept_denominator p r = kept w128 denominator_bound p.d (denominator_within p r) tt
 
