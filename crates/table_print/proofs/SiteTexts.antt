@@ -2,8 +2,8 @@
 use Rattle.std.proofs.Common.{◌≡◌, ℕ, List, [], ◌∷◌, ◌++◌, length, Option, refl, sym, ap, ap₂, subst, ◌∙◌, append_assoc}
 use Rattle.std.specs.Io.KnownBytes.{Appends}
 use Rattle.std.proofs.KnownBytes.{Appends-trans}
-use Rattle.exact_ops.specs.Map.{Map}
-use Rattle.exact_ops.specs.Point.{Point}
+use Rattle.lattice_algebra.specs.Map.{Map}
+use Rattle.lattice_algebra.specs.Point.{Point}
 use Rattle.sg_io.specs.Bytes.{AppendsPrefix}
 use Rattle.triplet_text.specs.Bytes.{space, line_feed}
 use Rattle.table_print.specs.Lines.{AreLines, SomeText}

@@ -1,7 +1,7 @@
 -- The lines of the command `types`: an operator, its kind, its intrinsic part and its axis.
 use Rattle.std.specs.Prelude.{◌≡◌, ◌==◌, if◌then◌else◌, Bool, ℕ, ℤ, List, [], ◌∷◌, ◌++◌, Option, Some, None, decimal}
 use Rattle.std.specs.Fmt.{signed_decimal}
-use Rattle.exact_ops.specs.Operator.{Operator}
+use Rattle.lattice_algebra.specs.Operator.{Operator}
 use Rattle.lattice_algebra.specs.Matrix.{Column}
 use Rattle.op_types.specs.Types.{OperationType, IsTypeOf}
 use Rattle.triplet_text.specs.Bytes.{line_feed, space, comma, minus_sign}

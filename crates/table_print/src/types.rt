@@ -1,6 +1,6 @@
 ghost use Rattle.std.specs.Prelude.{◌≡◌, ◌<◌, ◌≤◌, ◌+◌, ◌++◌, Some, length, slice_get};
 ghost use Rattle.std.specs.Option.{option_map};
-ghost use Rattle.exact_ops.specs.Operator.{Operator};
+ghost use Rattle.lattice_algebra.specs.Operator.{Operator};
 ghost use Rattle.lattice_algebra.specs.Matrix.{column_of};
 ghost use Rattle.table_print.specs.Printing.{Prints};
 ghost use Rattle.table_print.specs.Types.{IsTypeLine, AreTypeLines, kind_text, part_text, numbers_text, axis_text};
