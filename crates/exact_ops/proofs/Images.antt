@@ -15,7 +15,7 @@ use Rattle.exact_ops.specs.declared.TheConstants.{UNIT, MAX_COORDINATE, MAX_DENO
 use Rattle.exact_ops.specs.Narrow.{IsNarrow}
 use Rattle.exact_ops.specs.Points.{point_with, IsPointInRange}
 use Rattle.exact_ops.proofs.Narrow.{AreWithin-parts}
-use Rattle.exact_ops.proofs.Bounds.{denominator_bound, numerator_bound, denominator_within, numerators_within, kept_denominator, kept_numerator}
+use Rattle.exact_ops.proofs.Bounds.{denominator_bound, numerator_bound, image_limit, denominator_within, numerators_within, kept_denominator, kept_numerator, passed}
 
 -- ---- one part of a cell
 
@@ -48,18 +48,6 @@ IsUnitPart-computed p u r e = subst (IsUnitPart p.d) (sym (unit_part_is p u r e)
 
 pub unit_part_size : (p : Point) (u : ℤ) → IsPointInRange p → u ≡ pos UNIT → unsigned_abs (unit_part p.d u) ≤ MAX_DENOMINATOR ^ 3
 unit_part_size p u r e = part_within p.d (unit_part p.d u) (IsUnitPart-computed p u r e) (denominator_within p r)
-
--- ---- numbers that were passed on
-
-pub kept_size : (n : ℕ) (x y : ℤ) → x ≡ y → unsigned_abs y ≤ n → unsigned_abs x ≤ n
-kept_size n x y e h = subst (λ v. unsigned_abs v ≤ n) (sym e) h
-
-pub kept_within : (x y z : ℤ) → AreWithin numerator_bound x y z → AreWithin numerator_bound (back w128 x) (back w128 y) (back w128 z)
-kept_within x y z h = record {
-  first = kept_size numerator_bound _ x (kept_numerator x h.first) h.first;
-  second = kept_size numerator_bound _ y (kept_numerator y h.second) h.second;
-  third = kept_size numerator_bound _ z (kept_numerator z h.third) h.third;
-}
 
 -- ---- the image
 
@@ -97,17 +85,17 @@ unfolding image
 numerators_are f n d part h =
     subst (λ k. times (pos UNIT *ℤ k) (numerators f n part) ≡ times k (times (pos UNIT) (f.w ·ᶜ n) +ᶜ times k f.t)) (sym h.whole) (numerators_ring f.w f.t n (pos UNIT) part)
 
-image_size : (d p : ℕ) → UNIT * p ≡ d → 2 * (MAX_COORDINATE * d) + 2 * (MAX_COORDINATE * d) + 2 * (MAX_COORDINATE * d) + (UNIT - 1) * p ≤ 7 * MAX_COORDINATE * d
+image_size : (d p : ℕ) → UNIT * p ≡ d → 2 * (MAX_COORDINATE * d) + 2 * (MAX_COORDINATE * d) + 2 * (MAX_COORDINATE * d) + (UNIT - 1) * p ≤ image_limit * d
 image_size d p e = omega (arith, e)
 
-numerator_size : (a b c t : ℤ) (n : Column) (d part : ℤ) → AreWithin 2 a b c → unsigned_abs t ≤ UNIT - 1 → HasCoordinatesWithin MAX_COORDINATE (record { n = n; d = d }) → IsUnitPart d part → unsigned_abs (numerator a b c t n part) ≤ 7 * MAX_COORDINATE * unsigned_abs d
+numerator_size : (a b c t : ℤ) (n : Column) (d part : ℤ) → AreWithin 2 a b c → unsigned_abs t ≤ UNIT - 1 → HasCoordinatesWithin MAX_COORDINATE (record { n = n; d = d }) → IsUnitPart d part → unsigned_abs (numerator a b c t n part) ≤ image_limit * unsigned_abs d
 numerator_size a b c t n d part h k l m =
     let m₁ = MAX_COORDINATE * unsigned_abs d in
     le_trans (value-size (2 ∷ 2 ∷ 2 ∷ (UNIT - 1) ∷ m₁ ∷ m₁ ∷ m₁ ∷ unsigned_abs part ∷ []) (a ∷ b ∷ c ∷ t ∷ n.x ∷ n.y ∷ n.z ∷ part ∷ []) (var 0 ⊗ var 4 ⊕ var 1 ⊗ var 5 ⊕ var 2 ⊗ var 6 ⊕ var 3 ⊗ var 7)
     (h.first, (h.second, (h.third, (k, (l.first, (l.second, (l.third, (le_refl (unsigned_abs part), tt)))))))))
     (image_size (unsigned_abs d) (unsigned_abs part) m.size)
 
-pub numerators_within_image : (f : Operator) (n : Column) (d part : ℤ) → HasEntriesWithin 2 f.w → AreWithin (UNIT - 1) f.t.x f.t.y f.t.z → HasCoordinatesWithin MAX_COORDINATE (record { n = n; d = d }) → IsUnitPart d part → HasCoordinatesWithin (7 * MAX_COORDINATE) (record { n = numerators f n part; d = d })
+pub numerators_within_image : (f : Operator) (n : Column) (d part : ℤ) → HasEntriesWithin 2 f.w → AreWithin (UNIT - 1) f.t.x f.t.y f.t.z → HasCoordinatesWithin MAX_COORDINATE (record { n = n; d = d }) → IsUnitPart d part → HasCoordinatesWithin image_limit (record { n = numerators f n part; d = d })
 numerators_within_image f n d part h k l m = record {
   first = numerator_size f.w.xx f.w.xy f.w.xz f.t.x n d part h.x k.first l m;
   second = numerator_size f.w.yx f.w.yy f.w.yz f.t.y n d part h.y k.second l m;
@@ -139,11 +127,8 @@ pub image_equals : (f g : Operator) (p : Point) (u : ℤ) (q : Point) → f ≡ 
 image_equals f g p u q v r e h =
     subst (λ k. q ≈ image UNIT (map_of k) p) v (subst (λ k. k ≈ image UNIT (map_of f) p) (sym h) (numerators_are f p.n p.d (unit_part p.d u) (IsUnitPart-computed p u r e)))
 
-pub image_within : (f : Operator) (p : Point) (u : ℤ) (q : Point) → IsNarrow f → IsPointInRange p → u ≡ pos UNIT → q ≡ record { n = numerators f p.n (unit_part p.d u); d = p.d } → HasCoordinatesWithin (7 * MAX_COORDINATE) q
-image_within f p u q n r e g = subst (HasCoordinatesWithin (7 * MAX_COORDINATE)) (sym g) (numerators_within_image f p.n p.d (unit_part p.d u) n.within_two (AreWithin-parts f.t n.is_operator.in_cell) r.within (IsUnitPart-computed p u r e))
+pub image_within : (f : Operator) (p : Point) (u : ℤ) (q : Point) → IsNarrow f → IsPointInRange p → u ≡ pos UNIT → q ≡ record { n = numerators f p.n (unit_part p.d u); d = p.d } → HasCoordinatesWithin image_limit q
+image_within f p u q n r e g = subst (HasCoordinatesWithin image_limit) (sym g) (numerators_within_image f p.n p.d (unit_part p.d u) n.within_two (AreWithin-parts f.t n.is_operator.in_cell) r.within (IsUnitPart-computed p u r e))
 
 pub kept_part : (p : Point) (u : ℤ) → IsPointInRange p → u ≡ pos UNIT → unsigned_abs (back w128 (unit_part p.d u)) ≤ MAX_DENOMINATOR ^ 3
-kept_part p u r e = let h = unit_part_size p u r e in kept_size (MAX_DENOMINATOR ^ 3) _ (unit_part p.d u) (kept w128 (MAX_DENOMINATOR ^ 3) (unit_part p.d u) h tt) h
-
-pub kept_translation : (t : ℤ) → unsigned_abs t ≤ UNIT - 1 → unsigned_abs (back w32 t) ≤ UNIT - 1
-kept_translation t h = kept_size (UNIT - 1) _ t (kept w32 (UNIT - 1) t h tt) h
+kept_part p u r e = passed w128 (MAX_DENOMINATOR ^ 3) (unit_part p.d u) (unit_part_size p u r e) tt

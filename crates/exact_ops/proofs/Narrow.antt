@@ -12,6 +12,7 @@ use Rattle.lattice_algebra.proofs.Operators.{IsOperator-product}
 use Rattle.exact_ops.specs.declared.TheConstants.{UNIT, MAX_ENTRY}
 use Rattle.exact_ops.specs.Narrow.{IsNarrow}
 
+-- a cell has parts
 pub some_parts : 0 < UNIT
 some_parts = omega arith
 

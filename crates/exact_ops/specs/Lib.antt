@@ -1,7 +1,3 @@
-pub use Rattle.lattice_algebra.specs.Matrix
-pub use Rattle.lattice_algebra.specs.Operator
-pub use Rattle.lattice_algebra.specs.Map
-pub use Rattle.lattice_algebra.specs.Point
 pub mod Narrow
 pub mod Raw
 pub mod Numbers

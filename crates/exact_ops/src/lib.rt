@@ -14,7 +14,7 @@ mod point;
 mod raw;
 
 pub use divisors::greatest_common_divisor;
-pub use matrix::Rotation;
+pub use matrix::{Rotation, Vector};
 pub use moves::Move;
 pub use op::{Op, OpFault, compose, inverse};
 pub use op_list::{NoMemory, OpList, PushFault};

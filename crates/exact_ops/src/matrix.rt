@@ -1,4 +1,4 @@
-ghost use Rattle.std.specs.Prelude.{◌≡◌, ◌≤◌, ◌↔◌, ◌*◌, ◌-◌, ◌^◌, IsTrue, unsigned_abs, pos, ◌+ℤ◌, ◌-ℤ◌, ◌*ℤ◌};
+ghost use Rattle.std.specs.Prelude.{◌≡◌, ◌≤◌, ◌↔◌, ◌*◌, ◌-◌, ◌^◌, ℕ, IsTrue, unsigned_abs, pos, ◌+ℤ◌, ◌-ℤ◌, ◌*ℤ◌};
 ghost use Rattle.std.specs.Int.{int_div_euclid, int_rem_euclid};
 ghost use Rattle.lattice_algebra.specs.Matrix.{sum_of_products, entries, matrix_of, column_of, coordinates, det, adjugate, scaled, neg_column, times, IsUnimodular, ◌·◌, ◌·ᶜ◌, ◌+ᶜ◌};
 ghost use Rattle.lattice_algebra.specs.Operator.{modulo, IsPart, AreParts, AreWithin, HasEntriesWithin};
@@ -22,9 +22,9 @@ pub struct Rotation {
     pub zz: i32,
 }
 
-/// The translation part of an operator, in parts of a cell.
+/// Three whole numbers: the translation part of an operator, in parts of a cell, or a direction, in multiples of the basis.
 #[derive(Clone, Copy, PartialEq, Eq, Debug, Drop)]
-pub struct Translation {
+pub struct Vector {
     pub x: i32,
     pub y: i32,
     pub z: i32,
@@ -136,6 +136,19 @@ impl Rotation {
         }
     }
 
+    /// What it makes of a vector.
+    pub fn image(&self, v: &Vector) -> Vector
+        requires matrix { HasEntriesWithin MAX_ENTRY (matrix_in self.now) }
+        requires vector { AreWithin MAX_ENTRY v.now.x v.now.y v.now.z }
+        ensures { column_in result ≡ matrix_in self.now ·ᶜ column_in v.now }
+    {
+        Vector {
+            x: dot(self.xx, self.xy, self.xz, v.x, v.y, v.z),
+            y: dot(self.yx, self.yy, self.yz, v.x, v.y, v.z),
+            z: dot(self.zx, self.zy, self.zz, v.x, v.y, v.z),
+        }
+    }
+
     /// Sign times the adjugate, which is the inverse where sign is the determinant.
     pub fn scaled_adjugate(&self, sign: i32) -> Rotation
         requires sign { unsigned_abs sign ≤ 1 }
@@ -156,15 +169,15 @@ impl Rotation {
     }
 }
 
-impl Translation {
+impl Vector {
     /// No translation.
-    pub const ZERO: Translation = Translation { x: 0, y: 0, z: 0 };
+    pub const ZERO: Vector = Vector { x: 0, y: 0, z: 0 };
 
-    /// The translation with these numbers: x, y, z.
-    pub fn of(numbers: &[i32; 3]) -> Translation
+    /// The vector with these numbers: x, y, z.
+    pub fn of(numbers: &[i32; 3]) -> Vector
         ensures { column_in result ≡ column_of numbers.now }
     {
-        Translation {
+        Vector {
             x: numbers[0],
             y: numbers[1],
             z: numbers[2],
@@ -179,20 +192,21 @@ impl Translation {
     }
 
     /// Whether each number is at least 0 and below `UNIT`.
-    pub fn is_in_cell(&self) -> bool
+    pub(crate) fn is_in_cell(&self) -> bool
         ensures { IsTrue result ↔ AreParts UNIT (column_in self.now) }
     {
         is_part(self.x) && is_part(self.y) && is_part(self.z)
     }
 
     /// Its image under the matrix, and t more, modulo the cell.
-    pub fn moved(&self, w: &Rotation, t: &Translation) -> Translation
+    pub(crate) fn moved(&self, w: &Rotation, t: &Vector) -> Vector
         requires narrow { HasEntriesWithin 2 (matrix_in w.now) }
         requires from { AreWithin (UNIT - 1) self.now.x self.now.y self.now.z }
         requires by { AreWithin (UNIT - 1) t.now.x t.now.y t.now.z }
-        ensures { column_in result ≡ modulo UNIT (matrix_in w.now ·ᶜ column_in self.now +ᶜ column_in t.now) }
+        ensures { column_in result
+            ≡ modulo UNIT (matrix_in w.now ·ᶜ column_in self.now +ᶜ column_in t.now) }
     {
-        Translation {
+        Vector {
             x: place(w.xx, w.xy, w.xz, self.x, self.y, self.z, t.x),
             y: place(w.yx, w.yy, w.yz, self.x, self.y, self.z, t.y),
             z: place(w.zx, w.zy, w.zz, self.x, self.y, self.z, t.z),
@@ -200,27 +214,29 @@ impl Translation {
     }
 
     /// The whole cells that `moved` drops.
-    pub fn carried(&self, w: &Rotation, t: &Translation) -> Translation
+    pub(crate) fn carried(&self, w: &Rotation, t: &Vector) -> Vector
         requires narrow { HasEntriesWithin 2 (matrix_in w.now) }
         requires from { AreWithin (UNIT - 1) self.now.x self.now.y self.now.z }
         requires by { AreWithin (UNIT - 1) t.now.x t.now.y t.now.z }
-        ensures value { matrix_in w.now ·ᶜ column_in self.now +ᶜ column_in t.now ≡ modulo UNIT (matrix_in w.now ·ᶜ column_in self.now +ᶜ column_in t.now) +ᶜ times (pos UNIT) (column_in result) }
+        ensures value { matrix_in w.now ·ᶜ column_in self.now +ᶜ column_in t.now
+            ≡ modulo UNIT (matrix_in w.now ·ᶜ column_in self.now +ᶜ column_in t.now)
+            +ᶜ times (pos UNIT) (column_in result) }
         ensures size { AreWithin 7 result.x result.y result.z }
     {
-        Translation {
+        Vector {
             x: carry(w.xx, w.xy, w.xz, self.x, self.y, self.z, t.x),
             y: carry(w.yx, w.yy, w.yz, self.x, self.y, self.z, t.y),
             z: carry(w.zx, w.zy, w.zz, self.x, self.y, self.z, t.z),
         }
     }
 
-    /// The opposite translation.
-    pub fn negated(&self) -> Translation
+    /// The opposite vector.
+    pub(crate) fn negated(&self) -> Vector
         requires { AreWithin (UNIT - 1) self.now.x self.now.y self.now.z }
         ensures value { column_in result ≡ neg_column (column_in self.now) }
         ensures size { AreWithin (UNIT - 1) result.x result.y result.z }
     {
-        Translation {
+        Vector {
             x: -self.x,
             y: -self.y,
             z: -self.z,
@@ -243,11 +259,11 @@ fn is_part(n: i32) -> bool
 
 /// A row times a column.
 fn dot(a: i32, b: i32, c: i32, x: i32, y: i32, z: i32) -> i32
-    requires left { AreWithin 2 a b c }
-    requires right { AreWithin (UNIT - 1) x y z }
+    requires left { AreWithin MAX_ENTRY a b c }
+    requires right { AreWithin MAX_ENTRY x y z }
     ensures value { result ≡ sum_of_products a b c x y z }
-    ensures size { unsigned_abs result ≤ 6 * (UNIT - 1) }
-    ensures entry_size { AreWithin 2 x y z → unsigned_abs result ≤ 3 * 2 ^ 2 }
+    ensures size { (m n : ℕ) → AreWithin m a b c → AreWithin n x y z
+        → unsigned_abs result ≤ 3 * (m * n) }
 {
     a * x + b * y + c * z
 }

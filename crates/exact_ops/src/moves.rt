@@ -4,6 +4,7 @@ ghost use Rattle.lattice_algebra.specs.Operator.{AreWithin, HasEntriesWithin};
 ghost use Rattle.lattice_algebra.specs.Map.{◌∘◌, IsShift};
 ghost use Rattle.lattice_algebra.specs.Point.{◌≈◌, image, HasCoordinatesWithin};
 ghost use Rattle.exact_ops.specs.declared.TheConstants.{UNIT, MAX_COORDINATE as COORDINATE_LIMIT, MAX_DENOMINATOR, MAX_SHIFT as SHIFT_LIMIT};
+ghost use Rattle.exact_ops.specs.Points.{point_with};
 ghost use Rattle.exact_ops.specs.Numbers.{point_in};
 ghost use Rattle.exact_ops.specs.Moves.{map_with, IsShiftInRange};
 
@@ -22,33 +23,29 @@ pub struct Move {
 impl Move {
     /// The image of a point, over the same denominator. None exactly where a coordinate of the image is beyond
     /// `MAX_COORDINATE` in size.
-    pub fn apply(&self, p: &Point) -> Option<Point>
-        ensures some { IsSome result ↔ HasCoordinatesWithin COORDINATE_LIMIT (image UNIT (map_with self.now.op self.now.shift) (point_in p.now)) }
-        ensures denominator { IfSome result (λ q. q.d ≡ p.now.d) }
-        ensures value { IfSome result (λ q. point_in q ≈ image UNIT (map_with self.now.op self.now.shift) (point_in p.now)) }
+    pub fn apply(&self, point: &Point) -> Option<Point>
+        ensures some { IsSome result ↔ HasCoordinatesWithin COORDINATE_LIMIT
+            (image UNIT (map_with self.now.op self.now.shift) (point_in point.now)) }
+        ensures denominator { IfSome result (λ q. q.d ≡ point.now.d) }
+        ensures value { IfSome result (λ q. point_in q
+            ≈ image UNIT (map_with self.now.op self.now.shift) (point_in point.now)) }
     {
-        let [x, y, z] = self.op.image_of(p);
-        let d = p.d;
-        let x = shifted(x, self.shift[0], d);
-        let y = shifted(y, self.shift[1], d);
-        let z = shifted(z, self.shift[2], d);
-        if !is_coordinate(x, d) {
+        let n = self.image_of(point);
+        if !are_coordinates(&n, point.d) {
             return None;
         }
-        if !is_coordinate(y, d) {
-            return None;
-        }
-        if !is_coordinate(z, d) {
-            return None;
-        }
-        Some(Point { n: [x, y, z], d })
+        Some(Point { n, d: point.d })
     }
 
     /// Next after self. None exactly where an entry of the product of the matrices lies outside -2..=2, or a whole shift
     /// of the product is beyond `MAX_SHIFT` in size.
     pub fn then(&self, next: &Move) -> Option<Move>
-        ensures some { (k : Column) → IsShift UNIT (map_with next.now.op next.now.shift ∘ map_with self.now.op self.now.shift) k → (IsSome result ↔ (HasEntriesWithin 2 (next.now.op.w · self.now.op.w) × IsShiftInRange k)) }
-        ensures value { IfSome result (λ m. map_with m.op m.shift ≡ map_with next.now.op next.now.shift ∘ map_with self.now.op self.now.shift) }
+        ensures some { (k : Column) → IsShift UNIT
+            (map_with next.now.op next.now.shift ∘ map_with self.now.op self.now.shift) k
+            → (IsSome result
+            ↔ (HasEntriesWithin 2 (next.now.op.w · self.now.op.w) × IsShiftInRange k)) }
+        ensures value { IfSome result (λ m. map_with m.op m.shift
+            ≡ map_with next.now.op next.now.shift ∘ map_with self.now.op self.now.shift) }
     {
         let op = compose(&next.op, &self.op)?;
         let [x, y, z] = next.op.shift_after(&self.op, &self.shift);
@@ -63,25 +60,42 @@ impl Move {
             shift: [x, y, z],
         })
     }
+
+    /// The numerators of the image of a point, over the denominator of the point.
+    fn image_of(&self, point: &Point) -> [i128; 3]
+        ensures { point_with result point.now.d
+            ≈ image UNIT (map_with self.now.op self.now.shift) (point_in point.now) }
+    {
+        let [x, y, z] = self.op.image_of(point);
+        [
+            shifted(x, self.shift[0], point.d),
+            shifted(y, self.shift[1], point.d),
+            shifted(z, self.shift[2], point.d),
+        ]
+    }
 }
 
 /// A numerator over d, shifted by whole cells.
 fn shifted(n: i128, shift: i64, d: i128) -> i128
-    requires numerator { unsigned_abs n ≤ 7 * COORDINATE_LIMIT * (UNIT * MAX_DENOMINATOR ^ 3) }
+    requires numerator { unsigned_abs n
+        ≤ (6 * COORDINATE_LIMIT + 1) * (UNIT * MAX_DENOMINATOR ^ 3) }
     requires shift { unsigned_abs shift ≤ SHIFT_LIMIT }
     requires denominator { unsigned_abs d ≤ UNIT * MAX_DENOMINATOR ^ 3 }
     ensures value { result ≡ n +ℤ shift *ℤ d }
-    ensures size { unsigned_abs result ≤ (7 * COORDINATE_LIMIT + SHIFT_LIMIT) * (UNIT * MAX_DENOMINATOR ^ 3) }
+    ensures size { unsigned_abs result
+        ≤ (6 * COORDINATE_LIMIT + 1 + SHIFT_LIMIT) * (UNIT * MAX_DENOMINATOR ^ 3) }
 {
     n + i128::from(shift) * d
 }
 
-/// Whether n / d is at most `MAX_COORDINATE` in size.
-fn is_coordinate(n: i128, d: i128) -> bool
+/// Whether each n / d is at most `MAX_COORDINATE` in size.
+fn are_coordinates(n: &[i128; 3], d: i128) -> bool
     requires { unsigned_abs d ≤ UNIT * MAX_DENOMINATOR ^ 3 }
-    ensures { IsTrue result ↔ (unsigned_abs n ≤ COORDINATE_LIMIT * unsigned_abs d) }
+    ensures { IsTrue result ↔ HasCoordinatesWithin COORDINATE_LIMIT (point_with n.now d) }
 {
-    n.unsigned_abs() <= u128::from(MAX_COORDINATE) * d.unsigned_abs()
+    let limit = u128::from(MAX_COORDINATE) * d.unsigned_abs();
+    let [x, y, z] = *n;
+    x.unsigned_abs() <= limit && y.unsigned_abs() <= limit && z.unsigned_abs() <= limit
 }
 
 fn are_shifts(x: i64, y: i64, z: i64) -> bool

@@ -1,4 +1,4 @@
-ghost use Rattle.std.specs.Prelude.{◌≡◌, ◌*◌, ◌↔◌, IsSome, IfSome, IsOk, IfOk, IsErrOf};
+ghost use Rattle.std.specs.Prelude.{◌≡◌, ◌+◌, ◌*◌, ◌↔◌, IsSome, IfSome, IsOk, IfOk, IsErrOf};
 ghost use Rattle.lattice_algebra.specs.Matrix.{entries, coordinates, matrix_of, column_of, IsUnimodular, ◌·◌};
 ghost use Rattle.lattice_algebra.specs.Operator.{Operator, identity_operator, product, IsInverse, AreWithin, HasEntriesWithin};
 ghost use Rattle.lattice_algebra.specs.Map.{map_of, ◌∘◌, IsShift};
@@ -12,7 +12,7 @@ ghost use Rattle.exact_ops.specs.Moves.{map_with, IsShiftInRange};
 
 use crate::UNIT;
 use crate::image::{image_coordinate, shift_coordinate};
-use crate::matrix::{Rotation, Translation};
+use crate::matrix::{Rotation, Vector};
 use crate::point::Point;
 use crate::raw::Raw;
 use std::marker::Model;
@@ -22,7 +22,7 @@ use std::marker::Model;
 #[derive(Clone, Copy, PartialEq, Eq, Debug, Drop)]
 pub struct Op {
     w: Rotation,
-    t: Translation,
+    t: Vector,
 }
 
 impl Model for Op {
@@ -56,15 +56,17 @@ impl Op {
     {
         Op {
             w: Rotation::IDENTITY,
-            t: Translation::ZERO,
+            t: Vector::ZERO,
         }
     }
 
     /// The operator with the numbers of a Raw.
     pub fn of(raw: &Raw) -> Result<Op, OpFault>
         ensures value { IfOk result (λ op. op ≡ numbers_of raw.now.w raw.now.t) }
-        ensures ok { IsOk result ↔ (IsUnimodular (matrix_of raw.now.w) × HasEntriesWithin 2 (matrix_of raw.now.w)) }
-        ensures not_unimodular { IsErrOf result OpFault.NotUnimodular ↔ (¬ IsUnimodular (matrix_of raw.now.w)) }
+        ensures ok { IsOk result
+            ↔ (IsUnimodular (matrix_of raw.now.w) × HasEntriesWithin 2 (matrix_of raw.now.w)) }
+        ensures not_unimodular { IsErrOf result OpFault.NotUnimodular
+            ↔ (¬ IsUnimodular (matrix_of raw.now.w)) }
     {
         let w = Rotation::of(&raw.w);
         if !raw.unimodular() {
@@ -73,7 +75,7 @@ impl Op {
         if !w.is_within(2) {
             return Err(OpFault::Wide);
         }
-        let t = Translation::of(&raw.t);
+        let t = Vector::of(&raw.t);
         Ok(Op { w, t })
     }
 
@@ -96,14 +98,16 @@ impl Op {
 
     /// The numerators of the image of a point, over the denominator of the point. They are exact and not reduced, and can
     /// leave the range of a Point.
-    pub fn image_of(&self, p: &Point) -> [i128; 3]
-        ensures value { point_with result p.now.d ≈ image PARTS (map_of self.now) (point_in p.now) }
-        ensures within { HasCoordinatesWithin (7 * MAX_COORDINATE) (point_with result p.now.d) }
+    pub fn image_of(&self, point: &Point) -> [i128; 3]
+        ensures value { point_with result point.now.d
+            ≈ image PARTS (map_of self.now) (point_in point.now) }
+        ensures within { HasCoordinatesWithin (6 * MAX_COORDINATE + 1)
+            (point_with result point.now.d) }
     {
         let w = &self.w;
         let t = &self.t;
-        let [x, y, z] = p.n;
-        let part = p.d / i128::from(UNIT);
+        let [x, y, z] = point.n;
+        let part = point.d / i128::from(UNIT);
         [
             image_coordinate(w.xx, w.xy, w.xz, t.x, x, y, z, part),
             image_coordinate(w.yx, w.yy, w.yz, t.y, x, y, z, part),
@@ -115,8 +119,10 @@ impl Op {
     /// translation has beside that of `compose`.
     pub fn shift_after(&self, first: &Op, shift: &[i64; 3]) -> [i64; 3]
         requires { IsShiftInRange (column_of shift.now) }
-        ensures value { IsShift PARTS (map_of self.now ∘ map_with first.now shift.now) (column_of result) }
-        ensures within { AreWithin (7 * MAX_SHIFT) (column_of result).x (column_of result).y (column_of result).z }
+        ensures value { IsShift PARTS (map_of self.now ∘ map_with first.now shift.now)
+            (column_of result) }
+        ensures within { AreWithin (7 * MAX_SHIFT) (column_of result).x
+            (column_of result).y (column_of result).z }
     {
         let w = &self.w;
         let carry = first.t.carried(w, &self.t);
@@ -146,7 +152,8 @@ pub fn compose(a: &Op, b: &Op) -> Option<Op>
 /// The inverse of an operator, its translation modulo the cell. None exactly where an entry of the inverse matrix lies
 /// outside -2..=2.
 pub fn inverse(a: &Op) -> Option<Op>
-    ensures some { (g : Operator) → IsInverse UNIT a.now g → (IsSome result ↔ HasEntriesWithin 2 g.w) }
+    ensures some { (g : Operator) → IsInverse UNIT a.now g
+        → (IsSome result ↔ HasEntriesWithin 2 g.w) }
     ensures value { IfSome result (λ op. IsInverse UNIT a.now op) }
 {
     let sign = a.w.sign();
@@ -154,6 +161,6 @@ pub fn inverse(a: &Op) -> Option<Op>
     if !w.is_within(2) {
         return None;
     }
-    let t = a.t.negated().moved(&w, &Translation::ZERO);
+    let t = a.t.negated().moved(&w, &Vector::ZERO);
     Some(Op { w, t })
 }

@@ -57,7 +57,8 @@ impl OpList {
         ensures ok { OnOk result (self.new ≡ self.old ++ numbers_of raw.now.w raw.now.t ∷ []) }
         ensures err { OnErr result (self.new ≡ self.old) }
         ensures unimodular { OnOk result (IsUnimodular (matrix_of raw.now.w)) }
-        ensures not_unimodular { IsErrOf result PushFault.NotUnimodular ↔ (¬ IsUnimodular (matrix_of raw.now.w)) }
+        ensures not_unimodular { IsErrOf result PushFault.NotUnimodular
+            ↔ (¬ IsUnimodular (matrix_of raw.now.w)) }
     {
         if !raw.unimodular() {
             return Err(PushFault::NotUnimodular);

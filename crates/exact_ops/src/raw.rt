@@ -3,7 +3,7 @@ ghost use Rattle.lattice_algebra.specs.Matrix.{matrix_of, IsUnimodular};
 ghost use Rattle.exact_ops.specs.Raw.{numbers_of, IsInRange};
 
 use crate::MAX_ENTRY;
-use crate::matrix::{Rotation, Translation};
+use crate::matrix::{Rotation, Vector};
 
 /// What a triplet says: the matrix row by row, each entry at most `MAX_ENTRY` in size, and the
 /// translation in parts of a cell, each from 0 to `UNIT - 1`. It need not be an operator.
@@ -24,7 +24,7 @@ impl Raw {
         if !rotation.is_within(MAX_ENTRY) {
             return None;
         }
-        let translation = Translation::of(&t);
+        let translation = Vector::of(&t);
         if !translation.is_in_cell() {
             return None;
         }

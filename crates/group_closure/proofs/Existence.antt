@@ -1,8 +1,7 @@
 -- Operators close and have a group list, or are unclosed: products are taken until nothing new comes, as `close` does.
-use Rattle.std.proofs.Common.{◌≡◌, ◌≢◌, ◌⊎◌, ◌↔◌, ◌+◌, ◌<◌, ◌≤◌, ℕ, zero, suc, ℤ, unsigned_abs, List, [], ◌∷◌, ◌++◌, length, slice_get, refl, sym, ap, ◌∙◌, subst, arith, All, Contains, inl, inr, ⊎_elim, length-append, Ordering, Less, Equal, Greater}
+use Rattle.std.proofs.Common.{◌≡◌, ◌≢◌, ◌⊎◌, ◌+◌, ◌<◌, ◌≤◌, ℕ, zero, suc, ℤ, unsigned_abs, List, [], ◌∷◌, ◌++◌, length, refl, sym, ap, ◌∙◌, subst, arith, All, Contains, inl, inr, ⊎_elim, length-append, Ordering, Less, Equal, Greater}
 use Rattle.std.specs.List.{list_any}
 use Rattle.std.specs.Ordering.{ordering_reverse}
-use Rattle.std.specs.List.Sorted.{IsStrictlySortedBy}
 use Rattle.std.proofs.lemmas.Bool.{cases_Bool, cases_lt, false≢true}
 use Rattle.std.proofs.lemmas.List.Elements.{All-nil, All-cons, All-contains, Contains-get_or}
 use Rattle.std.proofs.lemmas.List.Kept.{AllPairs-cons}
@@ -17,7 +16,7 @@ use Rattle.exact_ops.specs.Narrow.{IsNarrow}
 use Rattle.exact_ops.specs.declared.TheConstants.{UNIT}
 use Rattle.group_closure.specs.declared.TheConstants.{MAX_OPERATORS}
 use Rattle.group_closure.specs.Order.{operator_cmp}
-use Rattle.group_closure.specs.Words.{Span, Closes, AreDistinct, IsUnclosed}
+use Rattle.group_closure.specs.Words.{Span, Closes, IsUnclosed}
 use Rattle.group_closure.specs.GroupList.{IsGroupList}
 use Rattle.group_closure.specs.Steps.{IsPartial, HasProducts, IsGenerated}
 use Rattle.group_closure.proofs.CellOperators.{cell_operators}

@@ -37,6 +37,7 @@ pub unclosed_more : (list other : List Operator) → ((f : Operator) → Contain
 unclosed_more list other h (inl (many, m)) = inl (many, record { spanned = All-weaker (Span list) (Span other) (span_more list other h) many m.spanned; distinct = m.distinct; beyond = m.beyond })
 unclosed_more list other h (inr (f, w)) = inr (f, record { spanned = span_more list other h f w.spanned; wide = w.wide })
 
+-- no list is unclosed and closes
 pub not_closing : (list : List Operator) → IsUnclosed list → Closes list → ⊥
 not_closing list (inl (many, m)) c = closing.too_many cell_operators (λ f. HasEntriesWithin 2 f.w) MAX_OPERATORS list many (IsDistinct-from_AllPairs cell_operators.same many m.distinct) m.spanned m.beyond c
 not_closing list (inr (f, w)) c = w.wide (c.3 f w.spanned)
@@ -49,6 +50,7 @@ closes_by list members s l n = (members, l, λ f h. (s f).1 h, λ f h. (All-cont
 pub first_not_later : (f : Operator) (ops : List Operator) → AreDistinct (f ∷ ops) → Contains ops f → ⊥
 first_not_later f ops d m = d 0 (suc m.0) f (omega arith) (omega (arith, m.1)) (sym m.2)
 
+-- a list has one group list at most
 pub one_list : (list a b : List Operator) → IsGroupList list a → IsGroupList list b → a ≡ b
 one_list list [] b p q = let e = p.first in cc
 one_list list (f ∷ a) [] p q = let e = q.first in cc
@@ -63,6 +65,7 @@ one_list list (f ∷ a) (g ∷ b) p q =
     ))
     ∙ ap (λ (v : Operator). v ∷ b) (sym e)
 
+-- and lists of the same operators have the same
 pub same_list : (list other ops : List Operator) → ((f : Operator) → Contains list f ↔ Contains other f) → IsGroupList list ops → IsGroupList other ops
 same_list list other ops h p = record {
   first = p.first;

@@ -27,12 +27,14 @@ pub read_at : (members lent : List Operator) (f : Operator) (i k : ℕ) → lent
 read_at members lent f i k e p l q =
     found members lent f f i e (omega (arith, ap length e)) (q ∙ ap (λ j. get_or lent j f) p) (λ _. f)
 
+-- what stands at a place is a member
 pub contains_at : (members : List Operator) (f : Operator) (i : ℕ) → slice_get members i ≡ Some f → Contains members f
 contains_at members f i e = (i, slice_get_within members i f e, get_or_from_slice_get members i f f e)
 
 apart : (members : List Operator) (f : Operator) (i k : ℕ) → AreDistinct members → slice_get members i ≡ Some f → slice_get members k ≡ Some f → i < k → ⊥
 apart members f i k d p q l = d i k f l (slice_get_within members k f q) (get_or_from_slice_get members i f f p ∙ sym (get_or_from_slice_get members k f f q))
 
+-- and stands at one place alone
 pub one_place : (members : List Operator) (f : Operator) (i k : ℕ) → AreDistinct members → slice_get members i ≡ Some f → slice_get members k ≡ Some f → i ≡ k
 one_place members f i k d p q =
     let no_less : i < k → ⊥ = apart members f i k d p q in
@@ -43,6 +45,7 @@ one_place members f i k d p q =
 pub same_at : (members : List Operator) (f g : Operator) (i : ℕ) → slice_get members i ≡ Some f → slice_get members i ≡ Some g → f ≡ g
 same_at members f g i p q = sym (get_or_from_slice_get members i f f p) ∙ get_or_from_slice_get members i g f q
 
+-- a group has a member
 pub some_member : (members : List Operator) → IsGroup members → 0 < length members
 some_member members p = slice_get_within members 0 identity_operator p.first
 

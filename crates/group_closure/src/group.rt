@@ -102,7 +102,8 @@ impl Group {
         requires left { i < length self.now }
         requires right { j < length self.now }
         ensures within { result < length self.now }
-        ensures value { (f g : Operator) → slice_get self.now i ≡ Some f → slice_get self.now j ≡ Some g → slice_get self.now result ≡ Some (product UNIT f g) }
+        ensures value { (f g : Operator) → slice_get self.now i ≡ Some f
+            → slice_get self.now j ≡ Some g → slice_get self.now result ≡ Some (product UNIT f g) }
     {
         let members = &self.members;
         let op = compose(&members[usize::from(i)], &members[usize::from(j)]).unwrap();
@@ -113,7 +114,8 @@ impl Group {
     pub fn inverse_of(&self, i: u8) -> u8
         requires { i < length self.now }
         ensures within { result < length self.now }
-        ensures value { (f g : Operator) → slice_get self.now i ≡ Some f → slice_get self.now result ≡ Some g → IsInverse UNIT f g }
+        ensures value { (f g : Operator) → slice_get self.now i ≡ Some f
+            → slice_get self.now result ≡ Some g → IsInverse UNIT f g }
     {
         let members = &self.members;
         let op = inverse(&members[usize::from(i)]).unwrap();

@@ -16,13 +16,16 @@ pub fn one_group_list()
 
 /// Lists of the same operators have the same group list, whatever their order and repeats.
 pub fn same_members_same_list()
-    ensures { (list other members : List Operator) → ((f : Operator) → Contains list f ↔ Contains other f) → IsGroupList list members → IsGroupList other members }
+    ensures { (list other members : List Operator)
+        → ((f : Operator) → Contains list f ↔ Contains other f) → IsGroupList list members
+        → IsGroupList other members }
 {}
 
 /// A list closes where its group list has at most `MAX_OPERATORS` members, each narrow: an operator with no entry outside
 /// -2..=2.
 pub fn short_narrow_list_closes()
-    ensures { (list members : List Operator) → IsGroupList list members → length members ≤ MAX_OPERATORS → All IsNarrow members → Closes list }
+    ensures { (list members : List Operator) → IsGroupList list members
+        → length members ≤ MAX_OPERATORS → All IsNarrow members → Closes list }
 {}
 
 /// No list is both: one that `Group::close` refuses as `Unclosed` does not close.
@@ -39,7 +42,8 @@ pub fn closes_or_is_unclosed()
 /// Lagrange's theorem: a list of members of a group, at least one, each once, that has the product of each two of its own, has
 /// a length that divides the number of members.
 pub fn members_of_a_subgroup_divide()
-    ensures { (members part : List Operator) (some : Operator) → IsGroup members → AreDistinct part → Contains part some
+    ensures { (members part : List Operator) (some : Operator) → IsGroup members → AreDistinct part
+        → Contains part some
         → ((f : Operator) → Contains part f → Contains members f)
         → ((f g : Operator) → Contains part f → Contains part g → Contains part (product UNIT f g))
         → length part ∣ length members }

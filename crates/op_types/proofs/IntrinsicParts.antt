@@ -5,7 +5,7 @@ use Rattle.lattice_algebra.specs.Matrix.{Matrix, Column, times, ◌·ᶜ◌}
 use Rattle.lattice_algebra.specs.Operator.{Operator, AreWithin}
 use Rattle.lattice_algebra.specs.Powers.{IsOrder, sum_of_powers}
 use Rattle.exact_ops.specs.Narrow.{IsNarrow}
-use Rattle.exact_ops.specs.declared.TheConstants.{UNIT}
+use Rattle.exact_ops.specs.declared.TheConstants.{UNIT, MAX_ENTRY}
 use Rattle.exact_ops.proofs.Narrow.{AreWithin-parts}
 use Rattle.group_closure.specs.declared.TheConstants.{MAX_OPERATORS}
 use Rattle.op_types.specs.IntrinsicPart.{IsIntrinsicPart}
@@ -21,5 +21,8 @@ intrinsic_part f w s n t k d e q o p r h = record {
   equal = ap₂ (λ a c. times a c) (sym h) (r ∙ ap₂ (λ m c. m ·ᶜ c) (p ∙ ap (λ m. sum_of_powers m k) e) q);
 }
 
-pub in_cell : (f : Operator) (t : Column) → IsNarrow f → t ≡ f.t → AreWithin (UNIT - 1) t.x t.y t.z
-in_cell f t n e = subst (λ (c : Column). AreWithin (UNIT - 1) c.x c.y c.z) (sym e) (AreWithin-parts f.t n.is_operator.in_cell)
+small : (c : Column) → AreWithin (UNIT - 1) c.x c.y c.z → AreWithin MAX_ENTRY c.x c.y c.z
+small c h = omega arith
+
+pub in_cell : (f : Operator) (t : Column) → IsNarrow f → t ≡ f.t → AreWithin MAX_ENTRY t.x t.y t.z
+in_cell f t n e = subst (λ (c : Column). AreWithin MAX_ENTRY c.x c.y c.z) (sym e) (small f.t (AreWithin-parts f.t n.is_operator.in_cell))

@@ -1,6 +1,3 @@
-pub use Rattle.lattice_algebra.specs.Matrix
-pub use Rattle.lattice_algebra.specs.Operator
-pub use Rattle.lattice_algebra.specs.Powers
 pub mod ProperPart
 pub mod IntrinsicPart
 pub mod Axis

@@ -1,10 +1,6 @@
--- What a vector stands for.
+-- Columns on one line through the origin, divisors of a column, and the columns of a matrix.
 use Rattle.std.specs.Prelude.{◌≡◌, ℤ, ◌*ℤ◌}
 use Rattle.lattice_algebra.specs.Matrix.{Matrix, Column, ◌·ᶜ◌, times}
-use Rattle.op_types.specs.declared.vector.Vector.{Vector}
-
-abbrev pub column_in : Vector → Column
-column_in v = record { x = v.x; y = v.y; z = v.z }
 
 -- a and b are on one line through the origin: their cross product vanishes
 pub record AreParallel (a b : Column) : Type 0 where

@@ -11,12 +11,14 @@ use exact_ops::Rotation;
 use group_closure::Group;
 
 /// The kind of the operator at place i, counted from 0: whether its determinant is positive, and the order of its proper part.
-pub fn kind(g: &Group, i: u8) -> Kind
-    requires { i < length g.now }
-    ensures handedness { (f : Operator) → slice_get g.now i ≡ Some f → IsTrue result.proper ↔ IsProper f.w }
-    ensures order { (f : Operator) → slice_get g.now i ≡ Some f → (p : Matrix) → IsProperPart f.w p → IsOrder p result.order }
+pub fn kind(group: &Group, i: u8) -> Kind
+    requires { i < length group.now }
+    ensures handedness { (f : Operator) → slice_get group.now i ≡ Some f
+        → IsTrue result.proper ↔ IsProper f.w }
+    ensures order { (f : Operator) → slice_get group.now i ≡ Some f → (p : Matrix)
+        → IsProperPart f.w p → IsOrder p result.order }
 {
-    let w = Rotation::of(&g.op(i).w());
+    let w = Rotation::of(&group.op(i).w());
     Kind {
         order: cycle_of(&proper_part(&w)).order,
         proper: is_proper(&w),

@@ -13,12 +13,14 @@ ghost use Rattle.op_types.specs.Types.{OperationType, IsTypeOf, AgreeInType};
 
 /// The order of the rotation part W of a member divides the order of the group: its number of members.
 pub fn order_divides_length()
-    ensures { (members : List Operator) (f : Operator) (k : ℕ) → IsGroup members → Contains members f → IsOrder f.w k → k ∣ length members }
+    ensures { (members : List Operator) (f : Operator) (k : ℕ) → IsGroup members
+        → Contains members f → IsOrder f.w k → k ∣ length members }
 {}
 
 /// The order of the proper part of a member, W or -W, divides the number of members too.
 pub fn proper_order_divides_length()
-    ensures { (members : List Operator) (f : Operator) (p : Matrix) (k : ℕ) → IsGroup members → Contains members f → IsProperPart f.w p → IsOrder p k → k ∣ length members }
+    ensures { (members : List Operator) (f : Operator) (p : Matrix) (k : ℕ) → IsGroup members
+        → Contains members f → IsProperPart f.w p → IsOrder p k → k ∣ length members }
 {}
 
 /// An operation (W, t), as often as the order k of W says, is a translation, and n / d is its intrinsic part exactly where this
@@ -26,12 +28,15 @@ pub fn proper_order_divides_length()
 /// reflection in its plane.
 pub fn intrinsic_part_of_a_power()
     ensures turned { (f : Operator) (k : ℕ) → IsOrder f.w k → (repeated (map_of f) k).w ≡ identity }
-    ensures translation { (f : Operator) (n : Column) (d : ℤ) (k : ℕ) → pos 0 <ℤ d → IsOrder f.w k → IsIntrinsicPart f n d ↔ (times d (repeated (map_of f) k).s ≡ times (pos (UNIT * k)) n) }
+    ensures translation { (f : Operator) (n : Column) (d : ℤ) (k : ℕ) → pos 0 <ℤ d → IsOrder f.w k
+        → IsIntrinsicPart f n d ↔ (times d (repeated (map_of f) k).s ≡ times (pos (UNIT * k)) n) }
     ensures fixed { (f : Operator) (n : Column) (d : ℤ) → IsIntrinsicPart f n d → f.w ·ᶜ n ≡ n }
 {}
 
 /// Each member of a group has a type, and no operator has two: the fractions agree as values.
 pub fn one_type()
-    ensures some { (members : List Operator) (f : Operator) → IsGroup members → Contains members f → (t : OperationType) × IsTypeOf f t }
-    ensures one { (f : Operator) (s t : OperationType) → IsTypeOf f s → IsTypeOf f t → AgreeInType s t }
+    ensures some { (members : List Operator) (f : Operator) → IsGroup members → Contains members f
+        → (t : OperationType) × IsTypeOf f t }
+    ensures one { (f : Operator) (s t : OperationType) → IsTypeOf f s → IsTypeOf f t
+        → AgreeInType s t }
 {}

@@ -6,12 +6,12 @@
 
 mod axes;
 mod cycle;
+mod direction;
 mod intrinsic_part;
 mod kinds;
 mod laws;
 pub mod parts;
 mod proper_part;
-mod vector;
 
 pub use axes::axis;
 pub use intrinsic_part::{Frac3, intrinsic};

@@ -13,10 +13,10 @@ use Rattle.lattice_algebra.proofs.Machine.{back, kept}
 use Rattle.lattice_algebra.proofs.Maps.{shifted, operator_of-shifted}
 use Rattle.lattice_algebra.proofs.Points.{≈_sym, image-shifted}
 use Rattle.lattice_algebra.proofs.Remainders.{rem_is, modulo_is, modulo_parts}
-use Rattle.exact_ops.specs.declared.TheConstants.{UNIT, MAX_COORDINATE}
+use Rattle.exact_ops.specs.declared.TheConstants.{UNIT}
 use Rattle.exact_ops.specs.Points.{point_with, IsPointInRange}
 use Rattle.exact_ops.proofs.Narrow.{some_parts}
-use Rattle.exact_ops.proofs.Bounds.{denominator_bound, denominator_within, kept_denominator, kept_image}
+use Rattle.exact_ops.proofs.Bounds.{denominator_bound, image_limit, denominator_within, kept_denominator, kept_image}
 use Rattle.space_groups.specs.Space.{IsInCell}
 use Rattle.orbit_map.specs.Steps.{IsPlaced}
 
@@ -25,13 +25,13 @@ use Rattle.orbit_map.specs.Steps.{IsPlaced}
 size_of_part : (n : ℕ) (a : ℤ) → n ≤ denominator_bound → IsPart n a → unsigned_abs a ≤ denominator_bound
 size_of_part n a l p = omega (arith, ints)
 
-reduced : (n : ℕ) (x : rational.Point) (r a : ℤ) → 0 < n → IsPointInRange x → x.d ≡ pos n → unsigned_abs r ≤ 7 * MAX_COORDINATE * unsigned_abs x.d → a ≡ int_rem_euclid (back w128 r) (back w128 x.d) → back w128 a ≡ int_rem_euclid r (pos n)
+reduced : (n : ℕ) (x : rational.Point) (r a : ℤ) → 0 < n → IsPointInRange x → x.d ≡ pos n → unsigned_abs r ≤ image_limit * unsigned_abs x.d → a ≡ int_rem_euclid (back w128 r) (back w128 x.d) → back w128 a ≡ int_rem_euclid r (pos n)
 reduced n x r a h g e s q =
     let l = subst (λ d. unsigned_abs d ≤ denominator_bound) e (denominator_within x g) in
     let by : a ≡ int_rem_euclid r (pos n) = q ∙ ap₂ int_rem_euclid (kept_image x r g s) (kept_denominator x g ∙ e) in
     ap (back w128) by ∙ kept w128 denominator_bound (int_rem_euclid r (pos n)) (size_of_part n _ l (rem_is n h r).2) tt
 
-reduced_point : (n : ℕ) (x : rational.Point) (r : List ℤ) (a b c : ℤ) → 0 < n → IsPointInRange x → x.d ≡ pos n → HasCoordinatesWithin (7 * MAX_COORDINATE) (point_with r x.d)
+reduced_point : (n : ℕ) (x : rational.Point) (r : List ℤ) (a b c : ℤ) → 0 < n → IsPointInRange x → x.d ≡ pos n → HasCoordinatesWithin image_limit (point_with r x.d)
     → a ≡ int_rem_euclid (back w128 (column_of r).x) (back w128 x.d) → b ≡ int_rem_euclid (back w128 (column_of r).y) (back w128 x.d) → c ≡ int_rem_euclid (back w128 (column_of r).z) (back w128 x.d)
     → point_with (back w128 a ∷ back w128 b ∷ back w128 c ∷ []) (back w128 x.d) ≡ record { n = modulo n (column_of r); d = pos n }
 unfolding modulo
@@ -48,7 +48,7 @@ in_cell_modulo : (n : ℕ) → 0 < n → (c : Column) → IsInCell (record { n =
 in_cell_modulo n h c = let m = modulo_parts n h c in (m.x.0, m.x.1, m.y.0, m.y.1, m.z.0, m.z.1)
 
 -- what `image_in_cell` computes
-pub placed : (f : Operator) (x : rational.Point) (r : List ℤ) (a b c : ℤ) → IsOperator UNIT f → IsPointInRange x → point_with r x.d ≈ image UNIT (map_of f) x → HasCoordinatesWithin (7 * MAX_COORDINATE) (point_with r x.d)
+pub placed : (f : Operator) (x : rational.Point) (r : List ℤ) (a b c : ℤ) → IsOperator UNIT f → IsPointInRange x → point_with r x.d ≈ image UNIT (map_of f) x → HasCoordinatesWithin image_limit (point_with r x.d)
     → a ≡ int_rem_euclid (back w128 (column_of r).x) (back w128 x.d) → b ≡ int_rem_euclid (back w128 (column_of r).y) (back w128 x.d) → c ≡ int_rem_euclid (back w128 (column_of r).z) (back w128 x.d)
     → IsPlaced f x (point_with (back w128 a ∷ back w128 b ∷ back w128 c ∷ []) (back w128 x.d))
 placed f x r a b c o g e w i j k =

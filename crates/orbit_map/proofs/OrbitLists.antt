@@ -166,6 +166,7 @@ scaled_ordered_orbit members y m =
           (λ i j d l k. below_over_one (get_or s.0 i d) (get_or s.0 j d) (over i d (omega arith) ∙ sym (over j d k)) (s.1 i j d l k)),
     )
 
+-- one at least
 pub some_ordered_orbit : (members : List Operator) (x : rational.Point) → IsGroup members → IsScaled x → (list : List rational.Point) × IsOrderedOrbit members x list
 some_ordered_orbit members x m s = subst (λ v. (list : List rational.Point) × IsOrderedOrbit members v list) (sym s.1) (scaled_ordered_orbit members s.0 m)
 
@@ -176,6 +177,7 @@ in_other members x a b px p q z c =
     let over : rational.Point → Type 0 = λ v. v.d ≡ x.d in
     subst (Contains b) (sym (one_numerator z r.0 x.d px (All-contains over a z p.denominators c) (All-contains over b r.0 q.denominators r.1) r.2)) r.1
 
+-- and one at most
 pub one_orbit : (members : List Operator) (x : rational.Point) (a b : List rational.Point) → IsPoint x → IsOrderedOrbit members x a → IsOrderedOrbit members x b → a ≡ b
 one_orbit members x a b px p q =
     one_list_in_order (λ (p q : rational.Point). IsBelow (coordinates p.n) (coordinates q.n)) a b (λ u v c d l m. not_below_itself (coordinates u.n) (below_on (coordinates u.n) (coordinates v.n) (coordinates u.n) l m)) p.ascending q.ascending

@@ -11,9 +11,11 @@ use site_symmetry::order_at;
 
 /// How many points the orbit of p has in a cell. The order of the site-symmetry group times it is the number of members of
 /// the group.
-pub fn multiplicity(g: &Group, p: &Point) -> u16
-    ensures value { (orbit : List rational.Point) → IsOrbitList UNIT g.now (point_in p.now) orbit → result ≡ length orbit }
-    ensures law { (site : List Map) → IsSiteList UNIT g.now (point_in p.now) site → length site * result ≡ length g.now }
+pub fn multiplicity(group: &Group, point: &Point) -> u16
+    ensures value { (orbit : List rational.Point)
+        → IsOrbitList UNIT group.now (point_in point.now) orbit → result ≡ length orbit }
+    ensures law { (site : List Map) → IsSiteList UNIT group.now (point_in point.now) site
+        → length site * result ≡ length group.now }
 {
-    g.len() / order_at(g, p)
+    group.len() / order_at(group, point)
 }

@@ -13,14 +13,14 @@ use std::cmp::Ordering;
 
 /// The points of the orbit of p with coordinates from 0 to below 1, each once, ascending by their coordinates, over the
 /// denominator of p. All memory is taken first.
-pub fn orbit(alloc: Global, g: &Group, p: &Point) -> Result<Orbit, NoMemory>
-    ensures { IfOk result (λ orbit. IsOrderedOrbit g.now (point_in p.now) orbit) }
+pub fn orbit(alloc: Global, group: &Group, point: &Point) -> Result<Orbit, NoMemory>
+    ensures { IfOk result (λ orbit. IsOrderedOrbit group.now (point_in point.now) orbit) }
 {
-    let Ok(mut points) = Vec::with_capacity(alloc, usize::from(g.len())) else {
+    let Ok(mut points) = Vec::with_capacity(alloc, usize::from(group.len())) else {
         return Err(NoMemory);
     };
-    for i in 0..g.len() {
-        points.push_reserved(image_in_cell(&g.op(i as u8), p));
+    for i in 0..group.len() {
+        points.push_reserved(image_in_cell(&group.op(i as u8), point));
     }
     points.sort_unstable_by(|a, b| compare(a, b));
     points.dedup();
@@ -28,15 +28,16 @@ pub fn orbit(alloc: Global, g: &Group, p: &Point) -> Result<Orbit, NoMemory>
 }
 
 /// The image of p under the operator, moved into the cell.
-fn image_in_cell(op: &Op, p: &Point) -> Point
+fn image_in_cell(op: &Op, point: &Point) -> Point
     requires { IsOperator UNIT op.now }
     ensures three { length result.n ≡ 3 }
-    ensures placed { IsPlaced op.now (point_in p.now) (point_in result) }
+    ensures placed { IsPlaced op.now (point_in point.now) (point_in result) }
 {
-    let [x, y, z] = op.image_of(p);
+    let [x, y, z] = op.image_of(point);
+    let d = point.d;
     Point {
-        n: [x.rem_euclid(p.d), y.rem_euclid(p.d), z.rem_euclid(p.d)],
-        d: p.d,
+        n: [x.rem_euclid(d), y.rem_euclid(d), z.rem_euclid(d)],
+        d,
     }
 }
 

@@ -1,9 +1,9 @@
 -- Each stage of the answer has one outcome at most, and each has one: so words and bytes have one answer.
 use Rattle.std.proofs.Common.{◌≡◌, ◌*◌, ℕ, List, length, ⊎_elim, refl, sym, ap, subst, arith, All}
 use Rattle.std.proofs.lemmas.Bool.{cases_lt}
-use Rattle.exact_ops.specs.Operator.{Operator, IsOperator}
-use Rattle.exact_ops.specs.Point as rational
-use Rattle.exact_ops.specs.Point.{IsPoint}
+use Rattle.lattice_algebra.specs.Operator.{Operator, IsOperator}
+use Rattle.lattice_algebra.specs.Point as rational
+use Rattle.lattice_algebra.specs.Point.{IsPoint}
 use Rattle.exact_ops.specs.declared.TheConstants.{UNIT}
 use Rattle.triplet_text.specs.Lines.{lines_of, IsUnreadable, IsNotUnimodular}
 use Rattle.triplet_text.proofs.LineLaws.{unreadable_are_bad, not_unimodular_are_bad, none_bad, same_place, both_kinds, same_list, read_are_operators}
@@ -19,7 +19,7 @@ use Rattle.table_print.specs.Sites.{IsSiteText}
 use Rattle.table_print.proofs.SiteTexts as texts
 use Rattle.table_print.specs.Operators.{IsOperatorLine}
 use Rattle.table_print.specs.Types.{IsTypeLine}
-use Rattle.table_print.proofs.LineTexts.{one_text, some_lines}
+use Rattle.page_print.proofs.LineTexts.{one_text, some_lines}
 use Rattle.table_print.proofs.TypeLines.{one_operator_line, some_operator_line, one_type_line, some_type_line}
 use Rattle.sg_cli.specs.declared.TheConstants.{MAX_INPUT}
 use Rattle.sg_cli.specs.declared.fault.Fault.TheVariants.{Words, TooLong, Unreadable, NotUnimodular, Unclosed}

@@ -10,7 +10,7 @@ use Rattle.sg_io.specs.declared.source.ReadStop.TheVariants as reads
 use Rattle.sg_io.specs.Bytes.{AppendsPrefix, ConsumesSome}
 use Rattle.sg_io.specs.Count.{Rose}
 use Rattle.sg_io.specs.Streams.{SeenSource, SeenSink}
-use Rattle.exact_ops.specs.Operator.{Operator}
+use Rattle.lattice_algebra.specs.Operator.{Operator}
 use Rattle.triplet_text.specs.declared.lines.LineFault.{LineFault}
 use Rattle.triplet_text.specs.declared.lines.LineFault.TheVariants as line
 use Rattle.triplet_text.specs.Lines.{lines_of, AreRead, IsFaultOf}
@@ -18,7 +18,7 @@ use Rattle.group_closure.specs.declared.group.CloseFault.{CloseFault}
 use Rattle.group_closure.specs.declared.group.CloseFault.TheVariants as closes
 use Rattle.group_closure.specs.Words.{Closes, IsUnclosed}
 use Rattle.group_closure.specs.GroupList.{IsGroupList}
-use Rattle.table_print.specs.Printing.{Prints}
+use Rattle.page_print.specs.Printing.{Prints}
 use Rattle.sg_cli.specs.declared.TheConstants.{MAX_INPUT}
 use Rattle.sg_cli.specs.declared.words.Name.{Name}
 use Rattle.sg_cli.specs.declared.words.Name.TheVariants.{Ops, Types, Site}

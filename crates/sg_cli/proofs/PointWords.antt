@@ -7,7 +7,7 @@ use Rattle.std.proofs.lemmas.Bool.{false≢true}
 use Rattle.lattice_algebra.proofs.Numbers.{cancel_number}
 use Rattle.lattice_algebra.proofs.Ring.{var, con, ◌⊗◌, ring}
 use Rattle.exact_ops.specs.declared.TheConstants.{UNIT, MAX_COORDINATE}
-use Rattle.exact_ops.specs.Point.{Point}
+use Rattle.lattice_algebra.specs.Point.{Point}
 use Rattle.exact_ops.specs.Points.{AreCoordinatesInRange, HasCoordinates}
 use Rattle.triplet_text.specs.Coordinates.{IsCoordinate}
 use Rattle.triplet_text.proofs.CoordinateLaw.{one_coordinate}

@@ -1,8 +1,8 @@
 -- What is answered to words over the bytes of an input: stage by stage, where the first that refuses decides.
 use Rattle.std.specs.Prelude.{◌≤◌, ◌<◌, List, ℕ, length}
-use Rattle.exact_ops.specs.Operator.{Operator}
-use Rattle.exact_ops.specs.Map.{Map}
-use Rattle.exact_ops.specs.Point.{Point}
+use Rattle.lattice_algebra.specs.Operator.{Operator}
+use Rattle.lattice_algebra.specs.Map.{Map}
+use Rattle.lattice_algebra.specs.Point.{Point}
 use Rattle.triplet_text.specs.Lines.{lines_of, AreRead, IsFirstBad, IsUnreadable, IsNotUnimodular}
 use Rattle.group_closure.specs.Words.{Closes, IsUnclosed}
 use Rattle.group_closure.specs.GroupList.{IsGroupList}

@@ -3,7 +3,7 @@ use Rattle.std.specs.Prelude.{◌≡◌, ◌≢◌, ◌⊎◌, ◌==◌, if◌th
 use Rattle.std.specs.Io.KnownBytes.{Appends}
 use Rattle.sg_io.specs.Count.{Rose}
 use Rattle.sg_io.specs.Bytes.{AppendsPrefix}
-use Rattle.table_print.specs.Lines.{SomeText}
+use Rattle.page_print.specs.Lines.{SomeText}
 use Rattle.sg_cli.specs.declared.fault.Fault.{Fault}
 use Rattle.sg_cli.specs.Stages.{Gives, Refuses, Stage}
 use Rattle.sg_cli.specs.Answer.{Answer, IsAnswer, status_of_answer}

@@ -4,7 +4,7 @@ use Rattle.std.specs.Io.KnownBytes.{Appends, IsAtEnd}
 use Rattle.sg_io.specs.Count.{Rose}
 use Rattle.sg_io.specs.Bytes.{AppendsPrefix, ConsumesSome}
 use Rattle.sg_io.specs.Streams.{SeenSource, SeenSink}
-use Rattle.table_print.specs.Lines.{SomeText}
+use Rattle.page_print.specs.Lines.{SomeText}
 use Rattle.sg_cli.specs.declared.TheConstants.{MAX_INPUT}
 use Rattle.sg_cli.specs.declared.fault.Fault.{Fault}
 use Rattle.sg_cli.specs.declared.fault.Fault.TheVariants as fault

@@ -3,7 +3,7 @@ use Rattle.std.specs.Prelude.{◌≡◌, List, [], ◌∷◌, ℕ, ℤ, map, cod
 use Rattle.std.specs.String.{string_bytes}
 use Rattle.std.specs.Global.{Global}
 use Rattle.std.specs.declared.string.String.{String}
-use Rattle.exact_ops.specs.Point.{Point}
+use Rattle.lattice_algebra.specs.Point.{Point}
 use Rattle.exact_ops.specs.Points.{HasCoordinates}
 use Rattle.exact_ops.specs.Numbers.{point_in}
 use Rattle.triplet_text.specs.Coordinates.{IsCoordinate}

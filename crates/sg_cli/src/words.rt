@@ -1,5 +1,5 @@
 ghost use Rattle.std.specs.Prelude.{◌≡◌, IfSome, IfNone};
-ghost use Rattle.exact_ops.specs.Point as rational;
+ghost use Rattle.lattice_algebra.specs.Point as rational;
 ghost use Rattle.exact_ops.specs.Points.{point_with};
 ghost use Rattle.sg_cli.specs.Words.{IsCommand, IsNoCommand, IsSeenAs, Given, HasArguments, AreNone, ArePointWords, ArePointTexts, family, written, texts};
 ghost use Rattle.sg_cli.specs.declared.words.Name as names;

@@ -166,12 +166,14 @@ module _ (members : List Operator) (x : Point) (g : IsGroup members) (p : IsPoin
         | inr t ↦ (r.0, subst (λ k. AreFixing members x k r.0) e (no_more members x i r.0 f r.1 q (fixes_not f i q t)))
       ]
 
+  -- one at least
   pub some_ordered_site : (site : List Map) × IsOrderedSite members x site
   some_ordered_site = let r = some_fixing (length members) (omega arith) in (r.0, all_fixing members x (length members) r.0 (omega arith) r.1)
 
   place_of : (s : Map) → IsInSite UNIT members x s → (k : ℕ) × (slice_get members k ≡ Some (operator_of UNIT s))
   place_of s h = let c = h.element in (c.0, slice_get-get_or members c.0 (operator_of UNIT s) c.1 ∙ ap Some c.2)
 
+  -- and one at most
   pub one_ordered_site : (a b : List Map) → IsOrderedSite members x a → IsOrderedSite members x b → a ≡ b
   one_ordered_site a b s t =
       one_list_in_order (StandsBefore members) a b (λ u v c d h k.

@@ -1,3 +1,1 @@
-pub use Rattle.space_groups.specs.Space
-pub use Rattle.space_groups.specs.Lists
 pub mod OrderedSite

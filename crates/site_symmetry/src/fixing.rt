@@ -1,4 +1,4 @@
-ghost use Rattle.std.specs.Prelude.{◌≡◌, ◌<◌, ◌≤◌, ◌*◌, ◌↔◌, List, ℤ, pos, ◌*ℤ◌, ◌<ℤ◌, unsigned_abs, Some, IsSome, IfSome, length, slice_get};
+ghost use Rattle.std.specs.Prelude.{◌≡◌, ◌<◌, ◌≤◌, ◌+◌, ◌*◌, ◌↔◌, List, ℤ, pos, ◌*ℤ◌, ◌<ℤ◌, unsigned_abs, Some, IsSome, IfSome, length, slice_get};
 ghost use Rattle.lattice_algebra.specs.Operator.{Operator};
 ghost use Rattle.lattice_algebra.specs.Map.{Map};
 ghost use Rattle.exact_ops.specs.Numbers.{point_in};
@@ -13,17 +13,18 @@ use group_closure::Group;
 
 /// The operator (W, t) at place i, counted from 0, stands for the elements `x -> W x + t / UNIT + shift`, the shift three
 /// whole numbers. This is the one that maps p to itself; there is at most one. None exactly where no such shift does.
-pub fn fixes(g: &Group, i: u8, p: &Point) -> Option<Move>
-    requires { i < length g.now }
-    ensures some { (f : Operator) → slice_get g.now i ≡ Some f → (IsSome result ↔ SomeElementFixes f (point_in p.now)) }
-    ensures operator { IfSome result (λ m. slice_get g.now i ≡ Some m.op) }
-    ensures value { IfSome result (λ m. IsInSite UNIT g.now (point_in p.now) (map_in m)) }
+pub fn fixes(group: &Group, i: u8, point: &Point) -> Option<Move>
+    requires { i < length group.now }
+    ensures some { (f : Operator) → slice_get group.now i ≡ Some f
+        → (IsSome result ↔ SomeElementFixes f (point_in point.now)) }
+    ensures operator { IfSome result (λ m. slice_get group.now i ≡ Some m.op) }
+    ensures value { IfSome result (λ m. IsInSite UNIT group.now (point_in point.now) (map_in m)) }
 {
-    let op = g.op(i);
-    let [x, y, z] = op.image_of(p);
-    let x = whole_cells(p.n[0] - x, p.d)?;
-    let y = whole_cells(p.n[1] - y, p.d)?;
-    let z = whole_cells(p.n[2] - z, p.d)?;
+    let op = group.op(i);
+    let [x, y, z] = op.image_of(point);
+    let x = whole_cells(point.n[0] - x, point.d)?;
+    let y = whole_cells(point.n[1] - y, point.d)?;
+    let z = whole_cells(point.n[2] - z, point.d)?;
     Some(Move {
         op,
         shift: [x, y, z],
@@ -31,12 +32,13 @@ pub fn fixes(g: &Group, i: u8, p: &Point) -> Option<Move>
 }
 
 /// The order of the site-symmetry group: how many elements of the space group map p to itself.
-pub fn order_at(g: &Group, p: &Point) -> u16
-    ensures { (site : List Map) → IsSiteList UNIT g.now (point_in p.now) site → result ≡ length site }
+pub fn order_at(group: &Group, point: &Point) -> u16
+    ensures { (site : List Map) → IsSiteList UNIT group.now (point_in point.now) site
+        → result ≡ length site }
 {
     let mut order = 0;
-    for i in 0..g.len() {
-        if fixes(g, i as u8, p).is_some() {
+    for i in 0..group.len() {
+        if fixes(group, i as u8, point).is_some() {
             order += 1;
         }
     }
@@ -46,9 +48,9 @@ pub fn order_at(g: &Group, p: &Point) -> u16
 /// n / d, where it is whole.
 fn whole_cells(n: i128, d: i128) -> Option<i64>
     requires positive { pos 0 <ℤ d }
-    requires near { unsigned_abs n ≤ 8 * MAX_COORDINATE * unsigned_abs d }
+    requires near { unsigned_abs n ≤ (7 * MAX_COORDINATE + 1) * unsigned_abs d }
     ensures some { IsSome result ↔ ((k : ℤ) × (n ≡ k *ℤ d)) }
-    ensures value { IfSome result (λ k. (n ≡ k *ℤ d) × (unsigned_abs k ≤ 8 * MAX_COORDINATE)) }
+    ensures value { IfSome result (λ k. (n ≡ k *ℤ d) × (unsigned_abs k ≤ 7 * MAX_COORDINATE + 1)) }
 {
     if n % d != 0 {
         return None;

@@ -16,8 +16,10 @@ pub fn one_element_of_a_rotation()
 
 /// The elements of the site-symmetry group of the image g x are g r g^-1, for r in that of x.
 pub fn site_of_image()
-    ensures { (members : List Operator) (x : Point) (g back s : Map) → IsGroup members → IsPoint x → IsElement UNIT members g → AreInverse g back
-        → (IsInSite UNIT members (image UNIT g x) s ↔ ((r : Map) × IsInSite UNIT members x r × (s ≡ g ∘ r ∘ back))) }
+    ensures { (members : List Operator) (x : Point) (g back s : Map) → IsGroup members → IsPoint x
+        → IsElement UNIT members g → AreInverse g back
+        → (IsInSite UNIT members (image UNIT g x) s
+        ↔ ((r : Map) × IsInSite UNIT members x r × (s ≡ g ∘ r ∘ back))) }
 {}
 
 /// x and y are conjugate exactly where some element g of the space group makes an image g x with the site-symmetry group of
@@ -25,15 +27,18 @@ pub fn site_of_image()
 pub fn conjugate_by_members()
     ensures { (members : List Operator) (x y : Point) → IsGroup members → IsPoint x → IsPoint y
         → (AreConjugate UNIT members x y ↔ ((g : Map) × IsElement UNIT members g
-        × ((f : Operator) → Contains members f → HaveSameElement UNIT members f (image UNIT g x) y))) }
+        × ((f : Operator) → Contains members f
+        → HaveSameElement UNIT members f (image UNIT g x) y))) }
 {}
 
 /// Each rational point has a list of its site-symmetry group, in the order of the operators.
 pub fn site_of_point()
-    ensures { (members : List Operator) (x : Point) → IsGroup members → IsPoint x → (site : List Map) × IsOrderedSite members x site }
+    ensures { (members : List Operator) (x : Point) → IsGroup members → IsPoint x
+        → (site : List Map) × IsOrderedSite members x site }
 {}
 
 /// A rational point has one ordered list of its site-symmetry group only.
 pub fn one_ordered_site()
-    ensures { (members : List Operator) (x : Point) (a b : List Map) → IsGroup members → IsPoint x → IsOrderedSite members x a → IsOrderedSite members x b → a ≡ b }
+    ensures { (members : List Operator) (x : Point) (a b : List Map) → IsGroup members → IsPoint x
+        → IsOrderedSite members x a → IsOrderedSite members x b → a ≡ b }
 {}

@@ -9,14 +9,14 @@ use group_closure::Group;
 use std::alloc::Global;
 
 /// The elements of the space group that map p to itself, in the order of their operators. All memory is taken first.
-pub fn site(alloc: Global, g: &Group, p: &Point) -> Result<Site, NoMemory>
-    ensures { IfOk result (λ site. IsOrderedSite g.now (point_in p.now) site) }
+pub fn site(alloc: Global, group: &Group, point: &Point) -> Result<Site, NoMemory>
+    ensures { IfOk result (λ site. IsOrderedSite group.now (point_in point.now) site) }
 {
-    let Ok(mut moves) = Vec::with_capacity(alloc, usize::from(g.len())) else {
+    let Ok(mut moves) = Vec::with_capacity(alloc, usize::from(group.len())) else {
         return Err(NoMemory);
     };
-    for i in 0..g.len() {
-        if let Some(element) = fixes(g, i as u8, p) {
+    for i in 0..group.len() {
+        if let Some(element) = fixes(group, i as u8, point) {
             moves.push_reserved(element);
         }
     }

@@ -29,6 +29,3 @@ mod OneOperator
 -- for the search to come: nothing cites these two yet, nor what the heads of Keys, PointKeys and CarriedLists name
 pub mod Growing
 pub mod NearOrigin
--- the definitions on examples; nothing cites these
-mod Examples
-mod Inversion

@@ -2,8 +2,8 @@
 use Rattle.std.proofs.Common.{◌≡◌, ℕ, List, [], ◌++◌, Result, Ok, Err, refl}
 use Rattle.std.specs.Prelude.{OnOk, OnErr}
 use Rattle.std.specs.Io.KnownBytes.{Appends}
-use Rattle.exact_ops.specs.Map.{Map}
-use Rattle.exact_ops.specs.Point.{Point}
+use Rattle.lattice_algebra.specs.Map.{Map}
+use Rattle.lattice_algebra.specs.Point.{Point}
 use Rattle.sg_io.specs.declared.sink.SinkStop.{SinkStop}
 use Rattle.sg_io.specs.Bytes.{AppendsPrefix}
 use Rattle.sg_io.specs.Streams.{SeenSink}

@@ -1,12 +1,12 @@
 -- The text of a site: the counts, the elements, the points.
 use Rattle.std.proofs.Common.{◌≡◌, ℕ, List, [], ◌∷◌, ◌++◌, length, refl, sym, ap, ap₂, subst, ◌∙◌, append_assoc}
 use Rattle.std.proofs.lemmas.List.{append-nil}
-use Rattle.exact_ops.specs.Map.{Map}
-use Rattle.exact_ops.specs.Point.{Point}
+use Rattle.lattice_algebra.specs.Map.{Map}
+use Rattle.lattice_algebra.specs.Point.{Point}
 use Rattle.triplet_text.specs.Bytes.{space, line_feed}
-use Rattle.table_print.specs.Lines.{AreLines, IsNothing}
+use Rattle.page_print.specs.Lines.{AreLines, IsNothing}
 use Rattle.table_print.specs.Sites.{counts_text, IsElementLine, IsPointLine, IsSiteText}
-use Rattle.table_print.proofs.LineTexts.{one_text, some_lines}
+use Rattle.page_print.proofs.LineTexts.{one_text, some_lines}
 
 -- three texts that were added behind a word with spaces between them, and the end of the line
 point_added : (l word x y z : List ℕ) → ((((((l ++ word) ++ x) ++ space ∷ []) ++ y) ++ space ∷ []) ++ z) ++ line_feed ∷ [] ≡ l ++ (word ++ x ++ space ∷ y ++ space ∷ z ++ line_feed ∷ [])

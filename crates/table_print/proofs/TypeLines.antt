@@ -2,7 +2,7 @@
 use Rattle.std.proofs.Common.{◌≡◌, ◌↔◌, ◌∷◌, ◌++◌, [], ℕ, ℤ, pos, ◌*ℤ◌, ◌<ℤ◌, Bool, IsTrue, List, Option, Some, None, IsSome, IfSome, slice_get, Contains, refl, sym, ap, ap₂, ◌∙◌, append_assoc}
 use Rattle.std.proofs.lemmas.Bool.{false≢true}
 use Rattle.std.specs.Option.{option_map}
-use Rattle.exact_ops.specs.Operator.{Operator}
+use Rattle.lattice_algebra.specs.Operator.{Operator}
 use lib.IntN.{*ℤ_comm}
 use Rattle.lattice_algebra.specs.Matrix.{Matrix, Column, column_of, times}
 use Rattle.lattice_algebra.specs.Powers.{IsOrder}

@@ -1,9 +1,9 @@
 -- The lines of the command `ops`.
 use Rattle.std.specs.Prelude.{◌≡◌, ℕ, List, [], ◌∷◌, ◌++◌}
-use Rattle.exact_ops.specs.Operator.{Operator}
+use Rattle.lattice_algebra.specs.Operator.{Operator}
 use Rattle.triplet_text.specs.Bytes.{line_feed}
 use Rattle.triplet_text.specs.Printing.{operator_text}
-use Rattle.table_print.specs.Lines.{AreLines}
+use Rattle.page_print.specs.Lines.{AreLines}
 
 -- the line of an operator
 abbrev pub IsOperatorLine : Operator → List ℕ → Type 0

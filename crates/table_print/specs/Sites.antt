@@ -1,11 +1,11 @@
 -- The lines of the command `site`: the order and the multiplicity of a point, the elements that fix it, and its orbit.
 use Rattle.std.specs.Prelude.{◌≡◌, ℕ, List, [], ◌∷◌, ◌++◌, length, decimal, codes}
-use Rattle.exact_ops.specs.Map.{Map}
-use Rattle.exact_ops.specs.Point.{Point}
+use Rattle.lattice_algebra.specs.Map.{Map}
+use Rattle.lattice_algebra.specs.Point.{Point}
 use Rattle.triplet_text.specs.Bytes.{line_feed, space}
 use Rattle.triplet_text.specs.Fractions.{frac_text}
 use Rattle.triplet_text.specs.Printing.{map_text}
-use Rattle.table_print.specs.Lines.{AreLines}
+use Rattle.page_print.specs.Lines.{AreLines}
 
 -- how many elements fix the point, and how many points its orbit has in the cell
 abbrev pub counts_text : ℕ → ℕ → List ℕ

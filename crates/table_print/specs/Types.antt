@@ -1,13 +1,13 @@
 -- The lines of the command `types`: an operator, its kind, its intrinsic part and its axis.
 use Rattle.std.specs.Prelude.{◌≡◌, ◌==◌, if◌then◌else◌, Bool, ℕ, ℤ, List, [], ◌∷◌, ◌++◌, Option, Some, None, decimal}
 use Rattle.std.specs.Fmt.{signed_decimal}
-use Rattle.exact_ops.specs.Operator.{Operator}
-use Rattle.op_types.specs.Matrix.{Column}
+use Rattle.lattice_algebra.specs.Operator.{Operator}
+use Rattle.lattice_algebra.specs.Matrix.{Column}
 use Rattle.op_types.specs.Types.{OperationType, IsTypeOf}
 use Rattle.triplet_text.specs.Bytes.{line_feed, space, comma, minus_sign}
 use Rattle.triplet_text.specs.Fractions.{frac_text}
 use Rattle.triplet_text.specs.Printing.{operator_text}
-use Rattle.table_print.specs.Lines.{AreLines}
+use Rattle.page_print.specs.Lines.{AreLines}
 
 abbrev pub letter_m : ℕ
 letter_m = 109

@@ -1,8 +1,8 @@
 ghost use Rattle.std.specs.Prelude.{◌≡◌, ℕ, List};
 ghost use Rattle.std.specs.List.{Contains};
-ghost use Rattle.exact_ops.specs.Operator.{Operator};
-ghost use Rattle.exact_ops.specs.Map.{Map};
-ghost use Rattle.exact_ops.specs.Point.{Point};
+ghost use Rattle.lattice_algebra.specs.Operator.{Operator};
+ghost use Rattle.lattice_algebra.specs.Map.{Map};
+ghost use Rattle.lattice_algebra.specs.Point.{Point};
 ghost use Rattle.group_closure.specs.GroupList.{IsGroup};
 ghost use Rattle.table_print.specs.Types.{IsTypeLine};
 ghost use Rattle.table_print.specs.Sites.{IsSiteText};

@@ -1,8 +1,8 @@
 ghost use Rattle.std.proofs.Common.{rules};
 ghost use Rattle.std.specs.Prelude.{◌≡◌, ◌≤◌, ◌+◌, ◌++◌, drop, length};
 ghost use Rattle.page_print.specs.declared.page.TheConstants.{PAGE_ROOM};
-ghost use Rattle.table_print.specs.Lines.{AreLines, AddsSuch};
-ghost use Rattle.table_print.specs.Printing.{Prints};
+ghost use Rattle.page_print.specs.Lines.{AreLines, AddsSuch};
+ghost use Rattle.page_print.specs.Printing.{Prints};
 ghost use Rattle.table_print.specs.Operators.{IsOperatorLine, AreOperatorLines};
 ghost use Rattle.table_print.specs.declared.operators.TheConstants.{OPERATOR_LINE};
 

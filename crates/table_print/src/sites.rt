@@ -3,8 +3,8 @@ ghost use Rattle.std.specs.Prelude.{◌≡◌, ◌≤◌, ◌+◌, ◌++◌, dro
 ghost use Rattle.exact_ops.specs.Numbers.{point_in};
 ghost use Rattle.exact_ops.specs.Elements.{map_in};
 ghost use Rattle.page_print.specs.declared.page.TheConstants.{PAGE_ROOM};
-ghost use Rattle.table_print.specs.Lines.{AreLines, AddsSuch};
-ghost use Rattle.table_print.specs.Printing.{Prints};
+ghost use Rattle.page_print.specs.Lines.{AreLines, AddsSuch};
+ghost use Rattle.page_print.specs.Printing.{Prints};
 ghost use Rattle.table_print.specs.Sites.{counts_text, IsElementLine, IsPointLine, IsSiteText};
 ghost use Rattle.table_print.specs.declared.sites.TheConstants.{COUNTS_TEXT, ELEMENT_LINE, POINT_LINE};
 

@@ -1,11 +1,11 @@
 ghost use Rattle.std.proofs.Common.{rules};
 ghost use Rattle.std.specs.Prelude.{◌≡◌, ◌<◌, ◌≤◌, ◌+◌, ◌++◌, Some, drop, length, slice_get};
 ghost use Rattle.std.specs.Option.{option_map};
-ghost use Rattle.exact_ops.specs.Operator.{Operator};
-ghost use Rattle.op_types.specs.Matrix.{column_of};
+ghost use Rattle.lattice_algebra.specs.Operator.{Operator};
+ghost use Rattle.lattice_algebra.specs.Matrix.{column_of};
 ghost use Rattle.page_print.specs.declared.page.TheConstants.{PAGE_ROOM};
-ghost use Rattle.table_print.specs.Lines.{AreLines, AddsSuch};
-ghost use Rattle.table_print.specs.Printing.{Prints};
+ghost use Rattle.page_print.specs.Lines.{AreLines, AddsSuch};
+ghost use Rattle.page_print.specs.Printing.{Prints};
 ghost use Rattle.table_print.specs.Types.{IsTypeLine, AreTypeLines, kind_text, part_text, numbers_text, axis_text};
 ghost use Rattle.table_print.specs.declared.types.TheConstants.{TYPE_LINE, KIND_TEXT, PART_TEXT, AXIS_TEXT};
 

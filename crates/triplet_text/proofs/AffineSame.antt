@@ -4,8 +4,8 @@ use Rattle.std.proofs.lemmas.Int.{ints, unsigned_abs-mul}
 use Rattle.std.proofs.lemmas.Bool.{eq-eqb}
 use Rattle.std.proofs.Math.Nat.{eq_of_mul-eq-mul_right}
 use borrow.Author.Tests.{eqb-true}
-use Rattle.exact_ops.specs.Matrix.{Matrix, Column, scaled, times}
-use Rattle.exact_ops.specs.Operator.{Operator}
+use Rattle.lattice_algebra.specs.Matrix.{Matrix, Column, scaled, times}
+use Rattle.lattice_algebra.specs.Operator.{Operator}
 use Rattle.exact_ops.specs.declared.TheConstants.{UNIT}
 use Rattle.triplet_text.specs.Bytes.{star, minus_sign}
 use Rattle.triplet_text.specs.Fractions.{fraction_text}

@@ -6,8 +6,8 @@ use Rattle.std.proofs.lemmas.Int.{ints}
 use Rattle.std.proofs.lemmas.Bool.Decides.{nat_tests}
 use Rattle.std.proofs.Math.Nat.{eq_of_mul-eq-mul_right}
 use Rattle.lattice_algebra.proofs.Ring.{mul_add, ring, var, neg, ◌⊗◌}
-use Rattle.exact_ops.specs.Matrix.{scaled, times as times_column}
-use Rattle.exact_ops.specs.Operator.{Operator}
+use Rattle.lattice_algebra.specs.Matrix.{scaled, times as times_column}
+use Rattle.lattice_algebra.specs.Operator.{Operator}
 use Rattle.exact_ops.specs.declared.TheConstants.{UNIT}
 use Rattle.triplet_text.specs.declared.component.Component.{Component}
 use Rattle.triplet_text.specs.Bytes.{is_sign, is_x, is_y, is_z, comma, star, slash, plus_sign, minus_sign}

@@ -6,7 +6,7 @@ use Rattle.std.proofs.lemmas.Bool.Decides.{nat_tests}
 use Rattle.std.proofs.lemmas.Fmt.{decimal_is_IsNumeral_wide}
 use Rattle.std.proofs.Math.Nat.{div-le_self}
 use borrow.Author.Tests.{eqb-true}
-use Rattle.exact_ops.specs.Operator.{Operator, AreWithin}
+use Rattle.lattice_algebra.specs.Operator.{Operator, AreWithin}
 use Rattle.exact_ops.specs.declared.TheConstants.{UNIT}
 use Rattle.triplet_text.specs.declared.printing.TheConstants.{OVER_LIMIT, PARTS_LIMIT}
 use Rattle.triplet_text.specs.declared.component.Component.{Component}

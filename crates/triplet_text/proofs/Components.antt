@@ -7,7 +7,7 @@ use Rattle.std.specs.Fmt.{digits}
 use Rattle.std.proofs.lemmas.Int.{ints}
 use Rattle.std.proofs.lemmas.Bool.Decides.{Decides-int_eq}
 use borrow.Author.Tests.{leb-true}
-use Rattle.exact_ops.specs.Operator.{AreWithin, IsPart}
+use Rattle.lattice_algebra.specs.Operator.{AreWithin, IsPart}
 use Rattle.exact_ops.specs.declared.TheConstants.{UNIT}
 use Rattle.triplet_text.specs.declared.component.Component.{Component}
 use Rattle.triplet_text.specs.Bytes.{is_blank, is_quote, comma}

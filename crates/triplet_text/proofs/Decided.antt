@@ -3,8 +3,8 @@ use Rattle.std.proofs.Common.{◌≡◌, ◌⊎◌, ◌+◌, ◌≤◌, ℕ, ℤ
 use Rattle.std.specs.Cmp.{signed_Decides}
 use Rattle.std.proofs.lemmas.Bool.{cases_Bool, cases_lt, false≢true}
 use Rattle.std.proofs.lemmas.List.Elements.{All-nil, All-cons}
-use Rattle.exact_ops.specs.Matrix.{Matrix, IsUnimodular, det}
-use Rattle.exact_ops.specs.Operator.{Operator}
+use Rattle.lattice_algebra.specs.Matrix.{Matrix, IsUnimodular, det}
+use Rattle.lattice_algebra.specs.Operator.{Operator}
 use Rattle.lattice_algebra.proofs.Matrices.{IsUnimodular-det, det-IsUnimodular}
 use Rattle.triplet_text.specs.declared.coordinate.TheConstants.{COORDINATE_LENGTH}
 use Rattle.triplet_text.specs.Coordinates.{IsCoordinate, signed_of}

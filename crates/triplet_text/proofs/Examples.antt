@@ -1,8 +1,8 @@
 -- Worked examples of the definitions that no test of a function shows by itself, on literals.
 use Rattle.std.proofs.Common.{◌≡◌, ℤ, pos, negsuc, ap, refl, arith}
 use Rattle.std.proofs.lemmas.Int.{ints}
-use Rattle.exact_ops.specs.Matrix.{Column, scaled, times, identity, origin}
-use Rattle.exact_ops.specs.Operator.{Operator}
+use Rattle.lattice_algebra.specs.Matrix.{Column, scaled, times, identity, origin}
+use Rattle.lattice_algebra.specs.Operator.{Operator}
 use Rattle.triplet_text.specs.Printing.{IsPrintable, IsSameMap}
 
 -- x,y,z+1 over 2 has the translation 24, and over 1 the translation 12

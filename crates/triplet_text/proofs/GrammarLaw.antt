@@ -5,7 +5,7 @@ use Rattle.std.specs.Option.{option_map}
 use Rattle.std.proofs.lemmas.Bool.{lt-ltb, le-leb, eq-eqb}
 use Rattle.std.proofs.lemmas.List.{take_at}
 use borrow.Author.Tests.{eqb-true, ltb-true, leb-true}
-use Rattle.exact_ops.specs.Operator.{Operator, modulo}
+use Rattle.lattice_algebra.specs.Operator.{Operator, modulo}
 use Rattle.exact_ops.specs.Numbers.{numbers}
 use Rattle.exact_ops.specs.declared.raw.Raw.{Raw}
 use Rattle.triplet_text.specs.declared.component.Component.{Component}

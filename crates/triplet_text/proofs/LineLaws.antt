@@ -2,8 +2,8 @@
 use Rattle.std.proofs.Common.{◌≡◌, ℕ, suc, ◌+◌, List, [], ◌∷◌, ◌++◌, length, inl, inr, sym, ap, subst, ◌∙◌, refl, arith}
 use Rattle.std.specs.List.{All, AllByRecursion}
 use Rattle.std.proofs.lemmas.List.Elements.{recursion_from_All, All-nil, All-cons}
-use Rattle.exact_ops.specs.Matrix.{IsUnimodular}
-use Rattle.exact_ops.specs.Operator.{Operator, IsOperator, AreParts}
+use Rattle.lattice_algebra.specs.Matrix.{IsUnimodular}
+use Rattle.lattice_algebra.specs.Operator.{Operator, IsOperator, AreParts}
 use Rattle.exact_ops.specs.declared.TheConstants.{UNIT}
 use Rattle.triplet_text.specs.Lines.{IsRead, IsGood, AreRead, end, skipped, read, IsFirstBad, IsUnreadable, IsNotUnimodular}
 use Rattle.lattice_algebra.proofs.Remainders.{modulo_parts}

@@ -2,7 +2,7 @@
 use Rattle.std.proofs.Common.{◌≡◌, ℕ, ◌+◌, ◌<◌, ◌≤◌, Bool, true, false, List, [], ◌∷◌, ◌++◌, Option, Some, None, MatchOption, Bor, length, inl, inr, sym, subst, ◌∙◌, refl, arith, length-append, append_assoc}
 use Rattle.std.specs.List.{AllByRecursion}
 use Rattle.std.proofs.lemmas.List.Elements.{All-from_recursion}
-use Rattle.exact_ops.specs.Operator.{Operator}
+use Rattle.lattice_algebra.specs.Operator.{Operator}
 use Rattle.triplet_text.specs.declared.lines.LineFault.{LineFault}
 use Rattle.triplet_text.specs.declared.lines.LineFault.TheVariants.{Unreadable, NotUnimodular, NoMemory}
 use borrow.Author.Tests.{eqb-true}

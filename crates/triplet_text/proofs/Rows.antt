@@ -2,7 +2,7 @@
 use Rattle.std.proofs.Common.{◌≡◌, ◌∙◌, ◌^◌, ap, arith, to_z, of_z, w32, w64}
 use Rattle.std.specs.Prelude.{ℤ}
 use Rattle.std.proofs.lemmas.Int.{ints}
-use Rattle.exact_ops.specs.Operator.{IsPart}
+use Rattle.lattice_algebra.specs.Operator.{IsPart}
 use Rattle.exact_ops.specs.declared.TheConstants.{UNIT}
 use Rattle.triplet_text.specs.declared.component.Component.{Component}
 use Rattle.triplet_text.specs.Components.{Within}

@@ -1,7 +1,7 @@
 -- What the text of an affine map says: the value of each number that is written in it. The map's matrix is counted over d, and its translation over UNIT * d.
 use Rattle.std.specs.Prelude.{◌≡◌, ◌<◌, ℕ, ◌*◌, true, List, [], ◌∷◌, ◌++◌}
 use Rattle.std.specs.Int.{IsGcd}
-use Rattle.exact_ops.specs.Operator.{Operator}
+use Rattle.lattice_algebra.specs.Operator.{Operator}
 use Rattle.exact_ops.specs.declared.TheConstants.{UNIT}
 use Rattle.triplet_text.specs.declared.component.Component.{Component}
 use Rattle.triplet_text.specs.Bytes.{is_sign, comma, star, slash, minus_sign}

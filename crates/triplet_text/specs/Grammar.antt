@@ -1,7 +1,7 @@
 -- The triplet grammar: which lines are triplets, and what they say. docs/formats.md has it in words.
 use Rattle.std.specs.Prelude.{◌≡◌, ◌<◌, ◌≤◌, ◌⊎◌, if◌then◌else◌, ℕ, ◌+◌, ◌-◌, ◌*◌, ◌^◌, pos, neg_ℤ, ◌+ℤ◌, true, List, [], ◌∷◌, ◌++◌, length, decimal}
 use Rattle.std.specs.Int.{◌∣◌}
-use Rattle.exact_ops.specs.Operator.{Operator, modulo}
+use Rattle.lattice_algebra.specs.Operator.{Operator, modulo}
 use Rattle.exact_ops.specs.declared.TheConstants.{UNIT}
 use Rattle.triplet_text.specs.declared.component.Component.{Component}
 use Rattle.triplet_text.specs.declared.triplet.TheConstants.{LINE_LENGTH}

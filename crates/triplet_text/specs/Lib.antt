@@ -1,6 +1,3 @@
-pub use Rattle.exact_ops.specs.Matrix
-pub use Rattle.exact_ops.specs.Operator
-pub use Rattle.exact_ops.specs.Numbers
 pub mod Bytes
 pub mod Pieces
 pub mod Digits

@@ -1,8 +1,8 @@
 -- The lines of an input: what they say, and which of them is the first bad one. Lines are counted from 1.
 use Rattle.std.specs.Prelude.{◌≡◌, ◌==◌, ◌⊎◌, ℕ, ◌+◌, List, [], ◌∷◌, ◌++◌, length}
 use Rattle.std.specs.List.{All, slice_split}
-use Rattle.exact_ops.specs.Matrix.{IsUnimodular}
-use Rattle.exact_ops.specs.Operator.{Operator}
+use Rattle.lattice_algebra.specs.Matrix.{IsUnimodular}
+use Rattle.lattice_algebra.specs.Operator.{Operator}
 use Rattle.triplet_text.specs.declared.lines.LineFault.{LineFault}
 use Rattle.triplet_text.specs.declared.lines.LineFault.TheVariants.{Unreadable, NotUnimodular, NoMemory}
 use Rattle.triplet_text.specs.Bytes.{is_blank, line_feed, hash}

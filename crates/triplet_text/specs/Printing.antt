@@ -1,8 +1,8 @@
 -- The text of an affine map, and of an operator: three components with commas between them.
 use Rattle.std.specs.Prelude.{◌≡◌, ◌<◌, ◌≤◌, ◌==◌, if◌then◌else◌, ℕ, zero, suc, ◌*◌, ℤ, pos, negsuc, List, [], ◌∷◌, ◌++◌, fold}
-use Rattle.exact_ops.specs.Matrix.{scaled, times}
-use Rattle.exact_ops.specs.Operator.{Operator, HasEntriesWithin, AreWithin}
-use Rattle.exact_ops.specs.Map.{Map}
+use Rattle.lattice_algebra.specs.Matrix.{scaled, times}
+use Rattle.lattice_algebra.specs.Operator.{Operator, HasEntriesWithin, AreWithin}
+use Rattle.lattice_algebra.specs.Map.{Map}
 use Rattle.exact_ops.specs.declared.TheConstants.{UNIT}
 use Rattle.triplet_text.specs.declared.printing.TheConstants.{OVER_LIMIT, PARTS_LIMIT}
 use Rattle.triplet_text.specs.Bytes.{star, plus_sign, minus_sign, comma, zero_digit, letter_x, letter_y, letter_z}

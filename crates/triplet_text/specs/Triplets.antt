@@ -1,7 +1,7 @@
 -- A line as a triplet: three sums with commas between them.
 use Rattle.std.specs.Prelude.{◌==◌, if◌then◌else◌, ℕ, ℤ, pos, List, length, Option, Some, None, option_and_then, nat_le}
 use Rattle.std.specs.Int.{int_rem_euclid}
-use Rattle.exact_ops.specs.Operator.{Operator}
+use Rattle.lattice_algebra.specs.Operator.{Operator}
 use Rattle.exact_ops.specs.declared.TheConstants.{UNIT}
 use Rattle.triplet_text.specs.declared.component.Component.{Component}
 use Rattle.triplet_text.specs.declared.triplet.TheConstants.{LINE_LENGTH}

@@ -1,5 +1,5 @@
 ghost use Rattle.std.specs.Prelude.{◌≡◌, ◌<◌, ◌^◌, ◌⊎◌, List, ℕ, ℤ, pos, ◌<ℤ◌, ◌*ℤ◌};
-ghost use Rattle.exact_ops.specs.Operator.{Operator};
+ghost use Rattle.lattice_algebra.specs.Operator.{Operator};
 ghost use Rattle.triplet_text.specs.Grammar.{IsTriplet};
 ghost use Rattle.triplet_text.specs.Lines.{AreRead, IsFirstBad, IsUnreadable, IsNotUnimodular};
 ghost use Rattle.triplet_text.specs.Coordinates.{IsCoordinate};

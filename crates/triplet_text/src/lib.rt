@@ -22,7 +22,7 @@ pub use fraction::print_frac;
 pub use laws::{
     affine_map_has_one_text, affine_text_has_one_map, affine_text_has_values,
     affine_text_is_unique, coordinate_is_unique, equal_fractions_have_one_text,
-    lines_are_read_or_bad, triplet_is_unique,
+    fraction_text_has_value, lines_are_read_or_bad, triplet_is_unique,
 };
 pub use lines::{LineFault, read_lines};
 pub use printing::{OVER_LIMIT, PARTS_LIMIT, print_move, print_triplet};

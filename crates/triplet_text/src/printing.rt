@@ -1,5 +1,5 @@
 ghost use Rattle.std.specs.Prelude.{◌≡◌, ◌<◌, ◌≤◌, ◌+◌, ◌*◌, pos, ◌+ℤ◌, ◌*ℤ◌, length, unsigned_abs};
-ghost use Rattle.exact_ops.specs.Operator.{IsPart, AreWithin};
+ghost use Rattle.lattice_algebra.specs.Operator.{IsPart, AreWithin};
 ghost use Rattle.exact_ops.specs.Elements.{map_in};
 ghost use Rattle.exact_ops.specs.declared.TheConstants.{UNIT as PARTS, MAX_SHIFT};
 ghost use Rattle.triplet_text.specs.Printing.{coefficient_text, constant_text, terms_text, component_text, with_commas as commas_between, operator_text, map_text};

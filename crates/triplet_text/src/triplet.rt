@@ -1,6 +1,6 @@
 ghost use Rattle.std.specs.Prelude.{◌≡◌, ◌+◌, ◌≤◌, ◌^◌, length, IfSome, IfNone};
 ghost use Rattle.std.specs.Option.{option_map};
-ghost use Rattle.exact_ops.specs.Operator.{Operator, IsPart};
+ghost use Rattle.lattice_algebra.specs.Operator.{Operator, IsPart};
 ghost use Rattle.exact_ops.specs.Numbers.{numbers};
 ghost use Rattle.triplet_text.specs.Components.{IsSumOf, Within};
 ghost use Rattle.triplet_text.specs.Triplets.{modulo_cell, operator_by, three_sums, components_of};

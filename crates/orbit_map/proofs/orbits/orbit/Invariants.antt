@@ -6,6 +6,6 @@ use Rattle.orbit_map.proofs.orbits.orbit.Given as goal
 abbrev pub invariant-loop-i : goal.invariant-loop-i
 invariant-loop-i l = record {
   len : vec_len l.points ≡ l.i;
-  capacity : length l.g ≤ vec_capacity l.points;
-  placed : ArePlaced l.g (point_in l.p) l.i l.points.items;
+  capacity : length l.group ≤ vec_capacity l.points;
+  placed : ArePlaced l.group (point_in l.point) l.i l.points.items;
 }

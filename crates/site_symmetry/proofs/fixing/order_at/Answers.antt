@@ -9,8 +9,8 @@ use Rattle.site_symmetry.proofs.fixing.order_at.Goals.{then-is_some, else-is_som
 
 pub loop-i-preserved : goal.loop-i-preserved
 loop-i-preserved c =
-    let g = c.args.g.now in
-    let p = point_in c.args.p.now in
+    let g = c.args.group.now in
+    let p = point_in c.args.point.now in
     let i = c.loop-i.i in
     let f : Operator = get_or g i identity_operator in
     let q : slice_get g i ≡ Some f = slice_get-get_or g i identity_operator (omega arith) in
@@ -18,7 +18,7 @@ loop-i-preserved c =
     let was = c.loop-i.invariant.counted in
     elim c.if-is_some.branch [
       | then-is_some w ↦ record {
-        counted = subst (AreSoMany g p (i + 1)) (sym w.order-is) (one_more_counted g p i c.loop-i.order f c.len-i-end.ensures.group c.args.p.now.in_range.positive was q (h.0 (sym c.is_some.ensures ∙ w.if-is_some.true)));
+        counted = subst (AreSoMany g p (i + 1)) (sym w.order-is) (one_more_counted g p i c.loop-i.order f c.len-i-end.ensures.group c.args.point.now.in_range.positive was q (h.0 (sym c.is_some.ensures ∙ w.if-is_some.true)));
         within = omega arith;
       }
       | else-is_some w ↦ record {
@@ -28,4 +28,4 @@ loop-i-preserved c =
     ]
 
 pub returns : goal.returns
-returns c = λ site s. all_counted c.args.g.now (point_in c.args.p.now) c.loop-i.i c.loop-i.order (omega arith) c.loop-i.invariant.counted site s
+returns c = λ site s. all_counted c.args.group.now (point_in c.args.point.now) c.loop-i.i c.loop-i.order (omega arith) c.loop-i.invariant.counted site s

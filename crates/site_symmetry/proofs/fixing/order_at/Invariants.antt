@@ -5,6 +5,6 @@ use Rattle.site_symmetry.proofs.fixing.order_at.Given as goal
 
 abbrev pub invariant-loop-i : goal.invariant-loop-i
 invariant-loop-i l = record {
-  counted : AreSoMany l.g (point_in l.p) l.i l.order;
+  counted : AreSoMany l.group (point_in l.point) l.i l.order;
   within : l.order ≤ l.i;
 }

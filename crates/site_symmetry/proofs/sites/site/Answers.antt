@@ -14,8 +14,8 @@ use Rattle.site_symmetry.proofs.sites.site.Goals.{in-Some, in_default-fixes}
 
 pub loop-i-preserved : goal.loop-i-preserved
 loop-i-preserved c =
-    let g = c.args.g.now in
-    let p = point_in c.args.p.now in
+    let g = c.args.group.now in
+    let p = point_in c.args.point.now in
     let i = c.loop-i.i in
     let moves = c.loop-i.moves.items in
     let was = c.loop-i.invariant.listed in
@@ -26,7 +26,7 @@ loop-i-preserved c =
           let e : map map_in c.match-fixes.moves.items ≡ map map_in moves ++ map_in m ∷ [] = ap (λ (v : Vec Move Global). map map_in v.items) w.moves-is ∙ ap (map map_in) w.push_reserved.ensures.items ∙ map-append map_in moves (m ∷ []) in
           record {
             listed = subst (AreFixing g p (i + 1)) (sym e)
-                (one_more g p i (map map_in moves) m.op (map_in m) c.len.ensures.group c.args.p.now.in_range.positive was h.operator (operator_of_member g m.op i (column_of m.shift) c.len.ensures.group h.operator) h.value.fixes);
+                (one_more g p i (map map_in moves) m.op (map_in m) c.len.ensures.group c.args.point.now.in_range.positive was h.operator (operator_of_member g m.op i (column_of m.shift) c.len.ensures.group h.operator) h.value.fixes);
             within = omega (arith, ap (λ (v : Vec Move Global). vec_len v) w.moves-is, w.push_reserved.ensures.len, c.loop-i.invariant.within);
             room = omega (arith, ap (λ (v : Vec Move Global). vec_capacity v) w.moves-is, w.push_reserved.ensures.capacity, c.loop-i.invariant.room);
           }
@@ -41,4 +41,4 @@ loop-i-preserved c =
     ]
 
 pub returns : goal.returns
-returns c = all_fixing c.args.g.now (point_in c.args.p.now) c.loop-i.i (map map_in c.loop-i.moves.items) (omega arith) c.loop-i.invariant.listed
+returns c = all_fixing c.args.group.now (point_in c.args.point.now) c.loop-i.i (map map_in c.loop-i.moves.items) (omega arith) c.loop-i.invariant.listed

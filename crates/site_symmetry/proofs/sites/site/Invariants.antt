@@ -6,7 +6,7 @@ use Rattle.site_symmetry.proofs.sites.site.Given as goal
 
 abbrev pub invariant-loop-i : goal.invariant-loop-i
 invariant-loop-i l = record {
-  listed : AreFixing l.g (point_in l.p) l.i (map map_in l.moves.items);
+  listed : AreFixing l.group (point_in l.point) l.i (map map_in l.moves.items);
   within : vec_len l.moves ≤ l.i;
-  room : length l.g ≤ vec_capacity l.moves;
+  room : length l.group ≤ vec_capacity l.moves;
 }

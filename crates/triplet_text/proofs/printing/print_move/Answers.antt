@@ -1,6 +1,6 @@
 use Rattle.std.proofs.Common.{rules, arith}
 use Rattle.std.proofs.lemmas.Grind.{common_steps}
-use Rattle.exact_ops.specs.Matrix.{◌+ᶜ◌, times}
+use Rattle.lattice_algebra.specs.Matrix.{◌+ᶜ◌, times}
 use Rattle.triplet_text.proofs.printing.print_move.Goals as goal
 
 pub returns : goal.returns

@@ -3,7 +3,7 @@ use Rattle.std.proofs.lemmas.Bool.Decides.{Decides-eqb}
 use Rattle.lattice_algebra.proofs.Ring.{var, ◌⊗◌}
 use Rattle.lattice_algebra.proofs.Machine.{IsWithin, exact, computed}
 use Rattle.group_closure.specs.declared.TheConstants.{MAX_OPERATORS}
-use Rattle.op_types.proofs.vector.have_one_product.Goals as goal
+use Rattle.op_types.proofs.direction.have_one_product.Goals as goal
 
 abbrev bounds : List ℕ
 bounds = (2 * MAX_OPERATORS) ∷ (2 * MAX_OPERATORS) ∷ (2 * MAX_OPERATORS) ∷ (2 * MAX_OPERATORS) ∷ []

@@ -1,7 +1,7 @@
 use Rattle.std.proofs.Common.{rules}
 use Rattle.lattice_algebra.specs.Matrix.{◌·ᶜ◌}
 use Rattle.lattice_algebra.proofs.Machine.{read}
-use Rattle.op_types.proofs.intrinsic_part.image.Goals as goal
+use Rattle.exact_ops.proofs.matrix.Rotation.image.Goals as goal
 
 pub returns : goal.returns
 unfolding ◌·ᶜ◌

@@ -1,9 +1,9 @@
 use Rattle.std.proofs.Common.{rules, to_z-of_z, w32, FitsSigned}
-use Rattle.op_types.proofs.vector.Vector.is_parallel.Goals as goal
+use Rattle.op_types.proofs.direction.are_parallel.Goals as goal
 
 pub returns : goal.returns
 returns c =
-    let v = c.args.self.now in
+    let v = c.args.v.now in
     let w = c.args.other.now in
     let f : (FitsSigned w32 v.x) × (FitsSigned w32 v.y) × (FitsSigned w32 v.z) = search rules in
     let g : (FitsSigned w32 w.x) × (FitsSigned w32 w.y) × (FitsSigned w32 w.z) = search rules in

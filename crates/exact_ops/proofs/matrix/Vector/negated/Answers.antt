@@ -2,7 +2,7 @@ use Rattle.std.proofs.Common.{◌≡◌, ◌≤◌, ◌-◌, ℤ, pos, ◌-ℤ�
 use Rattle.std.proofs.lemmas.Int.{ints}
 use Rattle.lattice_algebra.specs.Matrix.{neg_column}
 use Rattle.exact_ops.specs.declared.TheConstants.{UNIT}
-use Rattle.exact_ops.proofs.matrix.Translation.negated.Goals as goal
+use Rattle.exact_ops.proofs.matrix.Vector.negated.Goals as goal
 
 opposite : (x : ℤ) → unsigned_abs x ≤ UNIT - 1 → to_z w32 (of_z w32 (pos 0 -ℤ to_z w32 (of_z w32 x))) ≡ neg_ℤ x
 opposite x h = omega (arith, ints)

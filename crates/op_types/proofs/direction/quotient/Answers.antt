@@ -2,7 +2,7 @@ use Rattle.std.proofs.Common.{sym, ap, ◌∙◌, ◌*ℤ◌, ◌*◌, FitsSigne
 use Rattle.std.proofs.lemmas.Int.{quot_is}
 use Rattle.group_closure.specs.declared.TheConstants.{MAX_OPERATORS}
 use Rattle.op_types.proofs.Divisors.{exact_quotient, quotient_fits}
-use Rattle.op_types.proofs.vector.quotient.Goals as goal
+use Rattle.op_types.proofs.direction.quotient.Goals as goal
 
 pub returns : goal.returns
 returns c =

@@ -6,7 +6,7 @@ use Rattle.lattice_algebra.proofs.Remainders.{quotients, quotients_are}
 use Rattle.exact_ops.specs.declared.TheConstants.{UNIT}
 use Rattle.exact_ops.specs.Fields.{matrix_in, column_in}
 use Rattle.exact_ops.proofs.Narrow.{some_parts}
-use Rattle.exact_ops.proofs.matrix.Translation.carried.Goals as goal
+use Rattle.exact_ops.proofs.matrix.Vector.carried.Goals as goal
 
 carries : (c : goal.After-carry-3) → quotients UNIT (matrix_in c.args.w.now ·ᶜ column_in c.args.self.now +ᶜ column_in c.args.t.now) ≡ record { x = back w32 c.carry.result; y = back w32 c.carry-2.result; z = back w32 c.carry-3.result }
 unfolding ◌·ᶜ◌ ◌+ᶜ◌ quotients
