@@ -1,7 +1,10 @@
-//! Symmetry operators in whole numbers: a matrix and a translation in parts of a cell, their products and inverses, modulo the
-//! translations of the lattice. Beside them the lists of what is read, rational points, and elements of the space group.
-//!
+//! Symmetry operators in whole numbers: a matrix and a translation in parts of a cell, modulo the translations of the lattice.
+//! Beside them the lists of what is read, rational points, and elements of the space group.
 //! International Tables A: the symmetry operation `x -> W x + t / UNIT`. The ranges are this project's own.
+//!
+//! Proved: products, inverses, images and whole shifts are exact (`compose`, `inverse`, `Op::image_of`, `Move::apply`,
+//! `Move::then`). A number out of range, a matrix without an inverse in whole numbers and an entry outside -2..=2 are each
+//! refused exactly where they occur (`Raw::of`, `Op::of`, `OpList::push`, `Point::of_coords`, and the calls above).
 #![tactic(auto)]
 
 mod divisors;

@@ -2,6 +2,11 @@
 //! operators and their inverses, in one fixed order. A list that generates too many, or one too wide, is refused.
 //! International Tables A: the operations of a space group modulo its lattice translations; the order and the limits are this
 //! project's own.
+//!
+//! Proved: `Group::close` gives exactly these products, the identity first, then in order, each once, and refuses exactly where
+//! there are more than `MAX_OPERATORS` or one has an entry outside -2..=2. Each list is one or the other
+//! (`closes_or_is_unclosed`, `unclosed_never_closes`) and has one group list at most (`one_group_list`). Places of members,
+//! products and inverses are right (`find`, `product`, `inverse_of`). Lagrange's theorem: `members_of_a_subgroup_divide`.
 #![tactic(auto)]
 
 mod closing;

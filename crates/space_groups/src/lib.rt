@@ -1,4 +1,7 @@
 //! The space group of a list of operators: site-symmetry groups, orbits, averages and the table of Wyckoff positions.
+//! International Tables A.
 //!
-//! Definitions and laws alone, over any number of parts of a cell and without bounds on numbers. International Tables A.
+//! Definitions and laws alone, for any number of parts of a cell and every rational point. Those of site-symmetry groups,
+//! orbits and conjugate points stand behind contracts of `site_symmetry` and `orbit_map`. The others are lemmas until a crate
+//! with code cites them: above all, that the rows which a finished search leaves are a table of Wyckoff positions.
 #![tactic(auto)]

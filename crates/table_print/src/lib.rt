@@ -1,5 +1,7 @@
-//! The text that each command prints of a group, line by line, written to a sink. The texts are this
-//! project's own.
+//! The text that each command prints of a group, line by line, written to a sink. The texts are this project's own.
+//!
+//! Proved: `print_ops`, `print_types` and `print_site` write the text whole, or a prefix of it with its cause. Each member of a
+//! group has one line of its type (`one_type_line`); a site and an orbit have one text (`one_site_text`).
 #![tactic(auto)]
 
 mod laws;

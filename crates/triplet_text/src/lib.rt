@@ -1,5 +1,11 @@
 //! Symmetry operators as text: `x,y+1/2,-z`. The coordinate triplets of International Tables A are read and printed; so are
 //! coordinates of points, fractions and affine maps. The grammar in detail, and what a line is, are this project's own.
+//!
+//! Proved: a line is read exactly where it is a triplet (`read_triplet`), and then of one operator (`triplet_is_unique`); so is
+//! a coordinate (`read_coord`, `coordinate_is_unique`). The lines of an input are all read, or the first bad one is told
+//! (`read_lines`, `lines_are_read_or_bad`). What is printed for an operator reads back as it (`print_triplet`). Equal fractions
+//! have one text (`print_frac`, `equal_fractions_have_one_text`). The text of an affine map has the map's values, and those of
+//! no other map (`print_affine`, `print_move`, and the four laws of affine texts).
 #![tactic(auto)]
 
 mod affine;
