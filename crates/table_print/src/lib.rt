@@ -13,6 +13,3 @@ pub use line::{LINE_ROOM, Line};
 pub use operators::print_ops;
 pub use sites::print_site;
 pub use types::print_types;
-
-#[cfg(test)]
-mod tests;

@@ -1,4 +1,4 @@
-use super::*;
+use sg_io::{Failed, SinkStop, Source, StdSink, StdSource, put_all};
 use std::io::{self, ErrorKind, Read, Write};
 use std::test::Fail;
 
@@ -109,89 +109,5 @@ fn a_writer_that_takes_nothing_has_failed(rt: HostRuntime) -> Result<(), Fail> {
     let mut sink = StdSink::new(room.as_mut_slice());
     assert_eq!(rt; put_all(&mut sink, b"xyz"), Err(SinkStop::Failed));
     assert_eq!(rt; room, *b"xy");
-    Ok(())
-}
-
-#[test]
-fn memory_is_read_and_written_whole(rt: HostRuntime) -> Result<(), Fail> {
-    let alloc = rt.alloc();
-    for (limit, stop) in [(4, Some(ReadStop::TooLong)), (5, None), (6, None)] {
-        let mut source = NoFailSource::new(alloc, b"x,y,z", 2).ok().ok_or("memory")?;
-        match read_all(alloc, &mut source, limit) {
-            Ok(all) => {
-                assert_eq!(rt; all.as_slice(), b"x,y,z".as_slice());
-                assert_eq!(rt; stop, None);
-            }
-            Err(other) => assert_eq!(rt; stop, Some(other)),
-        }
-    }
-    let mut sink = NoFailSink::new(alloc, 2);
-    assert_eq!(rt; put_all(&mut sink, b"x,y,z"), Ok(()));
-    assert_eq!(rt; put_all(&mut sink, b"\n"), Ok(()));
-    assert_eq!(rt; sink.held(), b"x,y,z\n".as_slice());
-    Ok(())
-}
-
-#[test]
-fn a_source_in_memory_fails_at_the_listed_call(rt: HostRuntime) -> Result<(), Fail> {
-    let alloc = rt.alloc();
-    // The call that fails, and what the first and the second read of all give.
-    for (call, first, second) in [
-        (0, None, Some("x,y,z")),
-        (1, None, Some("y,z")),
-        (2, None, Some("z")),
-        (3, None, Some("")),
-        (4, Some("x,y,z"), None),
-        (5, Some("x,y,z"), Some("")),
-    ] {
-        let mut source = MemSource::new(alloc, b"x,y,z", 2, &[call])
-            .ok()
-            .ok_or("memory")?;
-        for wanted in [first, second] {
-            match read_all(alloc, &mut source, 8) {
-                Ok(all) => {
-                    assert_eq!(rt;
-                        Some(all.as_slice()),
-                        wanted.map(|text| text.as_bytes()),
-                        "call {call}"
-                    );
-                }
-                Err(stop) => {
-                    assert_eq!(rt; stop, ReadStop::Failed, "call {call}");
-                    assert_eq!(rt; wanted, None, "call {call}");
-                }
-            }
-        }
-    }
-    Ok(())
-}
-
-#[test]
-fn a_sink_in_memory_fails_at_the_listed_call(rt: HostRuntime) -> Result<(), Fail> {
-    let alloc = rt.alloc();
-    // The call that fails, and what is held after the operator and after the line feed.
-    for (call, first, second) in [
-        (0, "", "\n"),
-        (1, "x,", "x,\n"),
-        (2, "x,y,", "x,y,\n"),
-        (3, "x,y,z", "x,y,z"),
-        (4, "x,y,z", "x,y,z\n"),
-    ] {
-        let mut sink = MemSink::new(alloc, 2, &[call]).ok().ok_or("memory")?;
-        let put = put_all(&mut sink, b"x,y,z");
-        assert_eq!(rt;
-            put.err(),
-            (call < 3).then_some(SinkStop::Failed),
-            "call {call}"
-        );
-        assert_eq!(rt; sink.held(), first.as_bytes(), "call {call}");
-        let put = put_all(&mut sink, b"\n");
-        assert_eq!(rt;
-            put.err(),
-            (call == 3).then_some(SinkStop::Failed),
-            "call {call}"
-        );
-        assert_eq!(rt; sink.held(), second.as_bytes(), "call {call}");
-    }
     Ok(())
 }
