@@ -73,7 +73,7 @@ impl Example {
 /// The bytes that a line gives behind its mark: a line, so many equal lines, or behind a second mark those of a file.
 fn bytes_of<R: Files + AllocGlobal>(rt: &R, mark: char, rest: &str) -> Result<Vec<u8>> {
     if let Some(path) = rest.strip_prefix(mark) {
-        return fs::read(rt, path).context("a file that cannot be read");
+        return fs::read(rt, path).context(format_args!("{path}"));
     }
     let (count, text) = rest.split_once(' ').unwrap_or((rest, ""));
     let line = line_of(rt.alloc(), text)?;

@@ -3,8 +3,8 @@
 use anyhow::{Context, Result, bail};
 use std::alloc::Global;
 
-/// The byte that an escape stands for, behind its `\`, and what follows it.
-fn escaped(text: &[u8]) -> Option<(u8, &[u8])> {
+/// The byte that an escape stands for, which is read behind its `\`, and what follows it.
+fn escape(text: &[u8]) -> Option<(u8, &[u8])> {
     match text {
         [b'n', rest @ ..] => Some((b'\n', rest)),
         [b'r', rest @ ..] => Some((b'\r', rest)),
@@ -28,14 +28,14 @@ fn octal(digit: u8) -> Option<u8> {
 }
 
 /// The bytes that a text stands for.
-fn bytes_of(alloc: Global, text: &str) -> Result<Vec<u8>> {
+fn unescaped(alloc: Global, text: &str) -> Result<Vec<u8>> {
     let mut bytes = Vec::new(alloc);
     let mut pieces = text.as_bytes().split(|byte| *byte == b'\\');
     if let Some(first) = pieces.next() {
         bytes.extend_from_slice(first)?;
     }
     for piece in pieces {
-        let (byte, rest) = escaped(piece).context("no such escape")?;
+        let (byte, rest) = escape(piece).context("no such escape")?;
         bytes.push(byte)?;
         bytes.extend_from_slice(rest)?;
     }
@@ -45,9 +45,9 @@ fn bytes_of(alloc: Global, text: &str) -> Result<Vec<u8>> {
 /// The bytes of a line. They end with a line feed, unless the text ends with `\`.
 pub fn line_of(alloc: Global, text: &str) -> Result<Vec<u8>> {
     match text.strip_suffix('\\') {
-        Some(text) => bytes_of(alloc, text),
+        Some(text) => unescaped(alloc, text),
         None => {
-            let mut line = bytes_of(alloc, text)?;
+            let mut line = unescaped(alloc, text)?;
             line.push(b'\n')?;
             Ok(line)
         }
@@ -55,7 +55,7 @@ pub fn line_of(alloc: Global, text: &str) -> Result<Vec<u8>> {
 }
 
 fn word_of(alloc: Global, text: &str) -> Result<String> {
-    match String::from_utf8(bytes_of(alloc, text)?) {
+    match String::from_utf8(unescaped(alloc, text)?) {
         Ok(word) => Ok(word),
         Err(_) => bail!("a word that is no text"),
     }
@@ -64,14 +64,20 @@ fn word_of(alloc: Global, text: &str) -> Result<String> {
 /// The words of a call: what stands between blanks, or between apostrophes.
 pub fn words_of(alloc: Global, text: &str) -> Result<Vec<String>> {
     let mut words = Vec::new(alloc);
-    for (place, part) in text.split('\'').enumerate() {
-        if place % 2 == 1 {
+    let mut is_quoted = false;
+    for part in text.split('\'') {
+        if is_quoted {
             words.push(word_of(alloc, part)?)?;
-            continue;
+        } else {
+            for word in part.split_ascii_whitespace() {
+                words.push(word_of(alloc, word)?)?;
+            }
         }
-        for word in part.split_ascii_whitespace() {
-            words.push(word_of(alloc, word)?)?;
-        }
+        is_quoted = !is_quoted;
+    }
+    // The last part was outside.
+    if !is_quoted {
+        bail!("an apostrophe without its like");
     }
     Ok(words)
 }
