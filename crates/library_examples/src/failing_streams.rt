@@ -29,7 +29,7 @@ fn sink_of(alloc: Global, piece: u32, call: u32) -> Result<MemSink, Fail>
     Ok(MemSink::new(alloc, piece, &[call]).ok().ok_or("memory")?)
 }
 
-/// `ops` over the source prints the group of the inversion or of nothing at all; or reading fails.
+/// `ops` over the source prints the text; or where there is none, reading fails, and that is told.
 fn reads(
     rt: &impl Abort,
     alloc: Global,
@@ -50,7 +50,7 @@ fn reads(
     Ok(())
 }
 
-/// Eight reads give a byte each, and the ninth is the end. Two reads give five bytes and three. Of no byte the first is the end.
+/// Eight reads give a byte each, and the ninth is the end. Two reads give five bytes and three.
 #[test]
 fn a_read_that_fails_is_status_3(rt: HostRuntime) -> Result<(), Fail> {
     let alloc = rt.alloc();
@@ -59,7 +59,12 @@ fn a_read_that_fails_is_status_3(rt: HostRuntime) -> Result<(), Fail> {
     }
     let group = b"x,y,z\n-x,-y,-z\n".as_slice();
     reads(&rt, alloc, source_of(alloc, INVERSION, 1, 9)?, Some(group))?;
-    reads(&rt, alloc, source_of(alloc, INVERSION, 5, 1)?, None)?;
+    reads(&rt, alloc, source_of(alloc, INVERSION, 5, 1)?, None)
+}
+
+#[test]
+fn an_empty_input_is_read_once(rt: HostRuntime) -> Result<(), Fail> {
+    let alloc = rt.alloc();
     reads(&rt, alloc, source_of(alloc, b"", 5, 0)?, None)?;
     reads(&rt, alloc, source_of(alloc, b"", 5, 1)?, Some(b"x,y,z\n"))
 }
