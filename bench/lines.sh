@@ -15,7 +15,7 @@ lines() {
 # row CRATE: code, tests, definitions, proofs, wrong bodies
 row() {
     local at=crates/$1 tests='/tests\.rt$' code test specs proofs wrong
-    if [ "$1" = worked_examples ]; then tests='/src/'; fi
+    if [ "$1" = library_examples ]; then tests='/src/'; fi
     mapfile -t code < <(git ls-files "$at/src" | grep -Ev "$tests" || true)
     mapfile -t test < <(git ls-files "$at/src" | grep -E "$tests" || true)
     mapfile -t specs < <(git ls-files "$at/specs" | grep -v '/Lib\.antt$' || true)

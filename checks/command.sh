@@ -1,12 +1,14 @@
 #!/usr/bin/env bash
-# The built program as a process, through bin/sg: the calls that the tables checks/cases/*.txt list, one a line, and what
-# no table can say (a full device, a closed stream, input that stays unread, other ways to call it).
+# The built program as a process, through bin/sg: the worked examples (crates/worked_examples/data/README.md says how they are
+# written), and what no call in memory can do.
 #
 # Each failure prints one line. The last line is `command: N passed, M failed`; the status is 0 only where M is 0.
 set -uf
 cd "$(dirname "${BASH_SOURCE[0]}")/.." || exit 1
 exec </dev/null
 sg=$PWD/bin/sg
+folder=$PWD/crates/worked_examples/data
+refused='sg: words are not a command in range\n'
 passed=0
 failed=0
 
@@ -41,80 +43,166 @@ call() {
     status=$?
 }
 
-# The file that a field of a table names, or one with its text.
-file_of() {
-    local field=$1 file=$2
-    case $field in
-        '<made/'*) echo "$made/${field#<made/}" ;;
-        '<'*) echo "${field#<}" ;;
+# expect CALL STATUS: the last call ended so, and wrote what the files `output` and `fault` have.
+expect() {
+    local call=$1 wanted=$2 wrong=''
+    [ "$status" = "$wanted" ] || wrong="status $status, not $wanted"
+    cmp -s "$made/output" "$made/printed" || wrong="${wrong:+$wrong; }standard output differs"
+    cmp -s "$made/fault" "$made/told" || wrong="${wrong:+$wrong; }standard error differs"
+    if [ -z "$wrong" ]; then pass; else failure "$call" "$wrong"; fi
+}
+
+# expect_texts CALL STATUS PRINTED TOLD
+expect_texts() {
+    printf '%b' "$3" >"$made/output"
+    printf '%b' "$4" >"$made/fault"
+    expect "$1" "$2"
+}
+
+# ---- worked examples
+
+# line_of TEXT: the line that a text stands for.
+line_of() {
+    case $1 in
+        *\\) printf '%b' "${1%\\}" ;;
+        *) printf '%b\n' "$1" ;;
+    esac
+}
+
+# lines_of COUNT TEXT
+lines_of() {
+    local line
+    printf -v line '%b' "${2%\\}"
+    case $2 in
+        *\\) yes "$line" | head -n "$1" | tr -d '\n' ;;
+        *) yes "$line" | head -n "$1" ;;
+    esac
+}
+
+# bytes_of LINE: what a line gives behind its mark: a line, so many equal lines, or behind a second mark those of a file.
+bytes_of() {
+    local mark=${1:0:1} rest=${1:1} count text=''
+    case $rest in
+        "$mark"*) cat "$folder/${rest#"$mark"}" ;;
+        '' | ' '*) line_of "${rest# }" ;;
         *)
-            printf '%b' "$field" >"$file"
-            echo "$file"
+            count=${rest%% *}
+            [ "$count" = "$rest" ] || text=${rest#* }
+            lines_of "$count" "$text"
             ;;
     esac
 }
 
-# expect CALL STATUS PRINTED TOLD: the last call ended and wrote so; `*` stands for anything.
-expect() {
-    local call=$1 wanted=$2 printed=$3 told=$4 wrong=''
-    [ "$wanted" = '*' ] || [ "$status" = "$wanted" ] || wrong="status $status, not $wanted"
-    [ "$printed" = '*' ] || cmp -s "$(file_of "$printed" "$made/text")" "$made/printed" ||
-        wrong="${wrong:+$wrong; }standard output is not ${printed:-empty}"
-    [ "$told" = '*' ] || cmp -s "$(file_of "$told" "$made/text")" "$made/told" ||
-        wrong="${wrong:+$wrong; }standard error is not ${told:-empty}"
-    if [ -z "$wrong" ]; then pass; else failure "$call" "$wrong"; fi
+# The words of a call: what stands between blanks, or between apostrophes.
+read_words() {
+    local rest=$1 word
+    words=()
+    while rest=${rest#"${rest%%[! ]*}"} && [ -n "$rest" ]; do
+        case $rest in
+            \'*)
+                rest=${rest#\'}
+                word=${rest%%\'*}
+                rest=${rest#"$word"\'}
+                ;;
+            *)
+                word=${rest%% *}
+                rest=${rest#"$word"}
+                ;;
+        esac
+        printf -v word '%b' "$word"
+        words+=("$word")
+    done
 }
 
-# ---- tables
-
-trim() {
-    local text=$1
-    text=${text#"${text%%[! ]*}"}
-    printf '%s' "${text%"${text##*[! ]}"}"
+begin_example() {
+    name=$1
+    calls=()
+    inputs=0
+    output=()
+    wanted=0
+    : >"$made/input-0"
+    : >"$made/fault"
 }
 
-# row WHERE WORDS INPUT STATUS PRINTED TOLD
-row() {
-    local where=$1 words=()
-    eval "words=($2)"
-    call "$(file_of "$3" "$made/input")" ${words[@]+"${words[@]}"}
-    expect "$where: sg $2" "$4" "$5" "$6"
+# The output that is expected. Lines that may be any are taken from what was printed.
+write_output() {
+    local line lines=0
+    : >"$made/output"
+    for line in ${output[@]+"${output[@]}"}; do
+        case $line in
+            '..'*)
+                lines=$(wc -l <"$made/output")
+                tail -n +"$((lines + 1))" "$made/printed" | head -n "${line#.. }" >>"$made/output"
+                [ "$(wc -l <"$made/output")" -eq "$((lines + ${line#.. }))" ] || echo 'lines are missing' >>"$made/output"
+                ;;
+            *) bytes_of "$line" >>"$made/output" ;;
+        esac
+    done
 }
 
-table() {
-    local file=$1 number=0 line fields=() field
-    if ! [ -r "$file" ]; then
+# Each call of the example over each of its inputs.
+ask_example() {
+    local call input words=()
+    for call in ${calls[@]+"${calls[@]}"}; do
+        read_words "$call"
+        for input in $(seq 0 "$inputs"); do
+            call "$made/input-$input" ${words[@]+"${words[@]}"}
+            write_output
+            expect "$file: $name: sg$call, input $((input + 1))" "$wanted"
+        done
+    done
+}
+
+ask_examples() {
+    local file=$1 line name calls inputs output wanted
+    begin_example ''
+    if ! [ -r "$folder/$file" ]; then
         failure "$file" 'cannot be read'
         return
     fi
     while IFS= read -r line || [ -n "$line" ]; do
-        number=$((number + 1))
-        case $line in '' | '#'*) continue ;; esac
-        IFS='|' read -r -a fields <<<"$line|"
-        if [ "${#fields[@]}" -ne 5 ]; then
-            failure "$file:$number" "not five fields"
-            continue
-        fi
-        for field in 0 1 2 3 4; do
-            fields[field]=$(trim "${fields[field]}")
-        done
-        row "$file:$number" "${fields[@]}"
-    done <"$file"
+        case $line in
+            '' | '#'*) ;;
+            '= '*)
+                ask_example
+                begin_example "${line#= }"
+                ;;
+            '$ sg'*) calls+=("${line#\$ sg}") ;;
+            '<'*) bytes_of "$line" >>"$made/input-$inputs" ;;
+            '|'*)
+                inputs=$((inputs + 1))
+                bytes_of "$line" >"$made/input-$inputs"
+                ;;
+            '>'* | '.. '*) output+=("$line") ;;
+            '! '*)
+                line=${line#! }
+                wanted=${line%% *}
+                line_of "${line#* }" >"$made/fault"
+                ;;
+            *) failure "$file" "no line of an example: $line" ;;
+        esac
+    done <"$folder/$file"
+    ask_example
 }
 
-# ---- inputs that are too long for a table
+# ---- what no call in memory can do
 
-make_inputs() {
-    local blanks
-    printf -v blanks '%251s' ''
-    printf '%s\n' "${blanks:1}x,y,z" >"$made/255-bytes.txt"
-    printf '%s\n' "${blanks}x,y,z" >"$made/256-bytes.txt"
-    { printf '#' && head -c 1048575 /dev/zero | tr '\0' a; } >"$made/longest.txt"
-    { cat "$made/longest.txt" && printf a; } >"$made/too-long.txt"
-    yes x,y,z | head -n 174762 >"$made/most-lines.txt"
+directory_as_input() {
+    call "$made" ops
+    expect_texts 'a directory as input' 3 '' 'sg: reading failed\n'
+    call "$made" help
+    expect_texts 'refused words over a directory' 2 '' "$refused"
 }
 
-# ---- what no table can say
+# Nothing is said of what is written then.
+words_that_are_no_text() {
+    local words
+    for words in $'\377' $'ops \377' $'\300\200 ops'; do
+        # shellcheck disable=SC2086
+        call "$made/empty" $words
+        if [ "$status" -eq 1 ]; then pass; else failure "words that are no text" "status $status, not 1"; fi
+    done
+}
 
 full_device() {
     if ! [ -c /dev/full ]; then
@@ -124,40 +212,42 @@ full_device() {
     : >"$made/printed"
     "$sg" ops </dev/null >/dev/full 2>"$made/told"
     status=$?
-    expect 'a full device as standard output' 4 '' 'sg: writing failed\n'
+    expect_texts 'a full device as standard output' 4 '' 'sg: writing failed\n'
     : >"$made/told"
     "$sg" help </dev/null >"$made/printed" 2>/dev/full
     status=$?
-    expect 'a full device as standard error' 2 '' ''
+    expect_texts 'a full device as standard error' 2 '' ''
 }
 
 closed_standard_error() {
     : >"$made/told"
     "$sg" ops </dev/null >"$made/printed" 2>&-
     status=$?
-    expect 'ops with a closed standard error' 0 'x,y,z\n' ''
+    expect_texts 'ops with a closed standard error' 0 'x,y,z\n' ''
     "$sg" help </dev/null >"$made/printed" 2>&-
     status=$?
-    expect 'help with a closed standard error' 2 '' ''
+    expect_texts 'help with a closed standard error' 2 '' ''
 }
 
 # Where the words are no command, the next reader finds the whole input.
 unread_input() {
+    local left='status 2\nx,y,z\n-x,-y,-z\n'
     printf 'x,y,z\n-x,-y,-z\n' >"$made/input"
     { "$sg" help 2>"$made/told"; echo "status $?"; cat; } <"$made/input" >"$made/printed"
-    expect 'a file stays unread' '*' 'status 2\nx,y,z\n-x,-y,-z\n' 'sg: words are not a command in range\n'
+    status=0
+    expect_texts 'a file stays unread' 0 "$left" "$refused"
     { "$sg" help 2>"$made/told"; echo "status $?"; cat; } < <(cat "$made/input") >"$made/printed"
-    expect 'a pipe stays unread' '*' 'status 2\nx,y,z\n-x,-y,-z\n' 'sg: words are not a command in range\n'
+    expect_texts 'a pipe stays unread' 0 "$left" "$refused"
 }
 
 other_ways_to_call() {
     (cd "$made" && exec "$sg" ops <empty >printed 2>told)
     status=$?
-    expect 'from another folder' 0 'x,y,z\n' ''
+    expect_texts 'from another folder' 0 'x,y,z\n' ''
     mkdir "$made/a folder" && ln -s "$sg" "$made/a folder/link" && ln -s 'a folder/link' "$made/second link"
     "$made/second link" ops </dev/null >"$made/printed" 2>"$made/told"
     status=$?
-    expect 'through symbolic links' 0 'x,y,z\n' ''
+    expect_texts 'through symbolic links' 0 'x,y,z\n' ''
 }
 
 # ---- all of it
@@ -169,13 +259,11 @@ if ! [ -x crates/sg/out/sg ]; then
 fi
 
 : >"$made/empty"
-make_inputs
-set +f
-tables=(checks/cases/*.txt)
-set -f
-for file in "${tables[@]}"; do
-    table "$file"
-done
+while IFS= read -r file; do
+    ask_examples "$file"
+done <crates/worked_examples/args
+directory_as_input
+words_that_are_no_text
 full_device
 closed_standard_error
 unread_input

@@ -38,6 +38,3 @@ pub const MAX_DENOMINATOR: u32 = 1_000_000;
 
 /// The greatest size of a whole shift of an element of the space group, in cells.
 pub const MAX_SHIFT: u64 = 10_000_000_000;
-
-#[cfg(test)]
-mod tests;

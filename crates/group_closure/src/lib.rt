@@ -23,6 +23,3 @@ pub use laws::{
 /// The most members that a group may have. In a conventional cell a space group has at most 48 rotation parts, each with at
 /// most four translations, those of a face-centred lattice. Each place in a group fits a u8.
 pub const MAX_OPERATORS: usize = 192;
-
-#[cfg(test)]
-mod tests;

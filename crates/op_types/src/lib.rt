@@ -23,6 +23,3 @@ pub use kinds::kind;
 pub use laws::{
     intrinsic_part_of_a_power, one_type, order_divides_length, proper_order_divides_length,
 };
-
-#[cfg(test)]
-mod tests;

@@ -14,6 +14,3 @@ pub mod parts;
 pub use count::multiplicity;
 pub use laws::{one_ordered_orbit, orbit_of_point, order_times_multiplicity, some_orbit};
 pub use orbits::orbit;
-
-#[cfg(test)]
-mod tests;

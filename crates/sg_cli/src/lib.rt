@@ -19,6 +19,3 @@ pub use words::{Command, read_words};
 
 /// The greatest number of bytes that an input may have.
 pub const MAX_INPUT: u32 = 1_048_576;
-
-#[cfg(test)]
-mod tests;

@@ -17,6 +17,3 @@ pub use memory::{MemSink, MemSource, NoFailSink, NoFailSource, NoIoMemory};
 pub use sink::{Sink, SinkStop, put_all};
 pub use source::{Failed, ReadStop, Source, read_all};
 pub use std_streams::{StdSink, StdSource};
-
-#[cfg(test)]
-mod tests;

@@ -17,6 +17,3 @@ pub use laws::{
     conjugate_by_members, one_element_of_a_rotation, one_ordered_site, site_of_image, site_of_point,
 };
 pub use sites::site;
-
-#[cfg(test)]
-mod tests;

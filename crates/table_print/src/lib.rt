@@ -13,6 +13,3 @@ pub use laws::{one_site_text, one_type_line};
 pub use operators::print_ops;
 pub use sites::print_site;
 pub use types::print_types;
-
-#[cfg(test)]
-mod tests;

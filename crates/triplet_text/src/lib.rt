@@ -34,6 +34,3 @@ pub use lines::{LineFault, read_lines};
 pub use printing::{OVER_LIMIT, PARTS_LIMIT, print_move, print_triplet};
 pub use text::{InPlace, TEXT_ROOM, Text};
 pub use triplet::{LINE_LENGTH, read_triplet};
-
-#[cfg(test)]
-mod tests;

@@ -1,0 +1,186 @@
+ghost use Rattle.std.specs.Prelude.{◌≤◌};
+
+use sg_cli::run;
+use sg_io::{MemSink, MemSource, NoFailSink, ReadStop, SinkStop, put_all, read_all};
+use std::alloc::Global;
+use std::process::Abort;
+use std::test::Fail;
+
+const INVERSION: &[u8] = b"-x,-y,-z";
+
+fn words_of(alloc: Global, texts: &[&str]) -> Result<Vec<String>, Fail> {
+    let mut words = Vec::new(alloc);
+    for text in texts {
+        words.push(String::from_str(alloc, text)?)?;
+    }
+    Ok(words)
+}
+
+fn source_of(alloc: Global, bytes: &[u8], piece: u32, call: u32) -> Result<MemSource, Fail>
+    requires { 1 ≤ piece }
+{
+    let source = MemSource::new(alloc, bytes, piece, &[call]);
+    Ok(source.ok().ok_or("memory")?)
+}
+
+fn sink_of(alloc: Global, piece: u32, call: u32) -> Result<MemSink, Fail>
+    requires { 1 ≤ piece }
+{
+    Ok(MemSink::new(alloc, piece, &[call]).ok().ok_or("memory")?)
+}
+
+/// `ops` over the source prints the text; or where there is none, reading fails, and that is told.
+fn reads(
+    rt: &impl Abort,
+    alloc: Global,
+    mut source: MemSource,
+    text: Option<&[u8]>,
+) -> Result<(), Fail> {
+    let mut out = NoFailSink::new(alloc, 100);
+    let mut err = NoFailSink::new(alloc, 100);
+    let words = words_of(alloc, &["ops"])?;
+    let status = run(alloc, &words, &mut source, &mut out, &mut err);
+    let (want, printed, told) = match text {
+        Some(text) => (0, text, b"".as_slice()),
+        None => (3, b"".as_slice(), b"sg: reading failed\n".as_slice()),
+    };
+    assert_eq!(rt; status, want);
+    assert_eq!(rt; out.held(), printed);
+    assert_eq!(rt; err.held(), told);
+    Ok(())
+}
+
+/// Eight reads give a byte each, and the ninth is the end. Two reads give five bytes and three.
+#[test]
+fn a_read_that_fails_is_status_3(rt: HostRuntime) -> Result<(), Fail> {
+    let alloc = rt.alloc();
+    for call in 0..9u32 {
+        reads(&rt, alloc, source_of(alloc, INVERSION, 1, call)?, None)?;
+    }
+    let group = b"x,y,z\n-x,-y,-z\n".as_slice();
+    reads(&rt, alloc, source_of(alloc, INVERSION, 1, 9)?, Some(group))?;
+    reads(&rt, alloc, source_of(alloc, INVERSION, 5, 1)?, None)
+}
+
+#[test]
+fn an_empty_input_is_read_once(rt: HostRuntime) -> Result<(), Fail> {
+    let alloc = rt.alloc();
+    reads(&rt, alloc, source_of(alloc, b"", 5, 0)?, None)?;
+    reads(&rt, alloc, source_of(alloc, b"", 5, 1)?, Some(b"x,y,z\n"))
+}
+
+/// Words, an input, and what is printed.
+const TEXTS: [(&[&str], &[u8], &[u8]); 3] = [
+    (&["ops"], INVERSION, b"x,y,z\n-x,-y,-z\n"),
+    (
+        &["types"],
+        b"-y,x,z+1/4",
+        b"\
+        x,y,z 1 0,0,0 -\n\
+        y,-x,z+3/4 4 0,0,3/4 0,0,1\n\
+        -y,x,z+1/4 4 0,0,1/4 0,0,1\n\
+        -x,-y,z+1/2 2 0,0,1/2 0,0,1\n\
+    ",
+    ),
+    (
+        &["site", "1/10", "1/5", "3/10"],
+        INVERSION,
+        b"\
+        order 1\n\
+        multiplicity 2\n\
+        fix x,y,z\n\
+        at 1/10 1/5 3/10\n\
+        at 9/10 4/5 7/10\n\
+    ",
+    ),
+];
+
+/// Each write takes a byte. What stands before the one that fails is printed.
+#[test]
+fn a_write_that_fails_is_status_4(rt: HostRuntime) -> Result<(), Fail> {
+    let alloc = rt.alloc();
+    for (texts, input, text) in TEXTS {
+        let words = words_of(alloc, texts)?;
+        for call in 0..text.len() {
+            let mut source = source_of(alloc, input, 100, 100)?;
+            let mut out = sink_of(alloc, 1, u32::try_from(call)?)?;
+            let mut err = NoFailSink::new(alloc, 100);
+            let status = run(alloc, &words, &mut source, &mut out, &mut err);
+            assert_eq!(rt; status, 4, "{words:?}, call {call}");
+            assert_eq!(rt; out.held(), &text[..call], "{words:?}, call {call}");
+            assert_eq!(rt; err.held(), b"sg: writing failed\n".as_slice());
+        }
+    }
+    Ok(())
+}
+
+#[test]
+fn the_status_does_not_depend_on_the_fault_text(rt: HostRuntime) -> Result<(), Fail> {
+    let alloc = rt.alloc();
+    let mut source = source_of(alloc, b"x,y,z\nx,y", 100, 100)?;
+    let mut out = NoFailSink::new(alloc, 100);
+    let mut err = sink_of(alloc, 100, 0)?;
+    let words = words_of(alloc, &["ops"])?;
+    let status = run(alloc, &words, &mut source, &mut out, &mut err);
+    assert_eq!(rt; status, 5);
+    assert_eq!(rt; out.held(), b"".as_slice());
+    assert_eq!(rt; err.held(), b"".as_slice());
+    Ok(())
+}
+
+/// The call that fails, and what the first and the second read of all give.
+const FAILED_READS: [(u32, Option<&str>, Option<&str>); 6] = [
+    (0, None, Some("x,y,z")),
+    (1, None, Some("y,z")),
+    (2, None, Some("z")),
+    (3, None, Some("")),
+    (4, Some("x,y,z"), None),
+    (5, Some("x,y,z"), Some("")),
+];
+
+#[test]
+fn a_source_in_memory_fails_at_the_listed_call(rt: HostRuntime) -> Result<(), Fail> {
+    let alloc = rt.alloc();
+    for (call, first, second) in FAILED_READS {
+        let mut source = source_of(alloc, b"x,y,z", 2, call)?;
+        for wanted in [first, second] {
+            match read_all(alloc, &mut source, 8) {
+                Ok(all) => {
+                    let wanted = wanted.map(|text| text.as_bytes());
+                    assert_eq!(rt; Some(all.as_slice()), wanted, "call {call}");
+                }
+                Err(stop) => {
+                    assert_eq!(rt; stop, ReadStop::Failed, "call {call}");
+                    assert_eq!(rt; wanted, None, "call {call}");
+                }
+            }
+        }
+    }
+    Ok(())
+}
+
+/// The call that fails, and what is held after the operator and after the line feed.
+const FAILED_WRITES: [(u32, &str, &str); 5] = [
+    (0, "", "\n"),
+    (1, "x,", "x,\n"),
+    (2, "x,y,", "x,y,\n"),
+    (3, "x,y,z", "x,y,z"),
+    (4, "x,y,z", "x,y,z\n"),
+];
+
+#[test]
+fn a_sink_in_memory_fails_at_the_listed_call(rt: HostRuntime) -> Result<(), Fail> {
+    let alloc = rt.alloc();
+    for (call, first, second) in FAILED_WRITES {
+        let mut sink = sink_of(alloc, 2, call)?;
+        let put = put_all(&mut sink, b"x,y,z");
+        let stop = (call < 3).then_some(SinkStop::Failed);
+        assert_eq!(rt; put.err(), stop, "call {call}");
+        assert_eq!(rt; sink.held(), first.as_bytes(), "call {call}");
+        let put = put_all(&mut sink, b"\n");
+        let stop = (call == 3).then_some(SinkStop::Failed);
+        assert_eq!(rt; put.err(), stop, "call {call}");
+        assert_eq!(rt; sink.held(), second.as_bytes(), "call {call}");
+    }
+    Ok(())
+}
