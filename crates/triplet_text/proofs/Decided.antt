@@ -1,5 +1,5 @@
 -- Which texts are coordinates, and which lines are good, is decided: so lines are read, or one of them is the first bad one.
-use Rattle.std.proofs.Common.{◌≡◌, ◌⊎◌, ◌+◌, ◌≤◌, ℕ, ℤ, pos, negsuc, Bool, true, false, List, [], ◌∷◌, length, Option, Some, None, int_eq, refl, sym, ap, ◌∙◌, arith, inl, inr, ⊎_elim}
+use Rattle.std.proofs.Common.{◌≡◌, ◌⊎◌, ◌+◌, ◌≤◌, ℕ, ℤ, pos, negsuc, List, [], ◌∷◌, length, Option, Some, None, int_eq, refl, sym, ap, ◌∙◌, arith, inl, inr, ⊎_elim}
 use Rattle.std.specs.Cmp.{signed_Decides}
 use Rattle.std.proofs.lemmas.Bool.{cases_Bool, cases_lt, false≢true}
 use Rattle.std.proofs.lemmas.List.Elements.{All-nil, All-cons}
@@ -8,10 +8,9 @@ use Rattle.lattice_algebra.specs.Operator.{Operator}
 use Rattle.lattice_algebra.proofs.Matrices.{IsUnimodular-det, det-IsUnimodular}
 use Rattle.triplet_text.specs.declared.coordinate.TheConstants.{COORDINATE_LENGTH}
 use Rattle.triplet_text.specs.Coordinates.{IsCoordinate, signed_of}
-use Rattle.triplet_text.specs.Grammar.{IsTriplet}
 use Rattle.triplet_text.specs.Pieces.{is_skipped}
 use Rattle.triplet_text.specs.Triplets.{triplet_of}
-use Rattle.triplet_text.specs.Lines.{IsSkipped, IsRead, IsGood, AreRead, end, skipped, read, IsFirstBad, IsUnreadable, IsNotUnimodular}
+use Rattle.triplet_text.specs.Lines.{IsSkipped, IsGood, AreRead, end, skipped, read, IsFirstBad, IsUnreadable, IsNotUnimodular}
 use Rattle.triplet_text.proofs.CoordinateLaw.{coordinate_to, coordinate_from, too_long}
 use Rattle.triplet_text.proofs.GrammarLaw.{triplet_to, triplet_from}
 use Rattle.triplet_text.proofs.LineSteps.{skipped_from, not_skipped}
