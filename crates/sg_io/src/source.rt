@@ -1,4 +1,4 @@
-ghost use Rattle.std.specs.Prelude.{◌≡◌, ◌≢◌, ◌↔◌, ◌+◌, ◌≤◌, ◌<◌, length, take, IfOk, OnOk, OnErr, IsErrOf};
+ghost use Rattle.std.specs.Prelude.{◌≡◌, ◌≢◌, ◌↔◌, ◌+◌, ◌≤◌, ◌<◌, ◌++◌, ℕ, List, length, take, IfOk, OnOk, OnErr, IsErrOf, vec_len, vec_capacity};
 ghost use Rattle.std.specs.Io.{ReadsAtMost};
 ghost use Rattle.std.specs.Io.KnownBytes.{ReadConsumes, Consumes, IsAtEnd};
 ghost use Rattle.sg_io.specs.Bytes.{ConsumesSome};
@@ -6,6 +6,9 @@ ghost use Rattle.sg_io.specs.Count.{Rose};
 ghost use Rattle.sg_io.specs.Streams.{SeenSource};
 
 use std::alloc::Global;
+
+/// So many bytes are cleared at a time, to be read into.
+const PIECE: usize = 16_384;
 
 /// A read failed.
 #[derive(Clone, Copy, Debug, PartialEq, Eq)]
@@ -59,6 +62,27 @@ fn fill<S: Source>(src: &mut S, buf: &mut [u8]) -> Result<usize, Failed>
     Ok(filled)
 }
 
+/// Adds the next bytes, until so many came or the input ends, and says how many came. There is room for them.
+fn add_piece<S: Source>(src: &mut S, all: &mut Vec<u8>, wanted: usize) -> Result<usize, Failed>
+    requires { vec_len all.old + wanted ≤ vec_capacity all.old }
+    ensures within { IfOk result (λ count. count ≤ wanted) }
+    ensures added { IfOk result (λ count. vec_len all.new ≡ vec_len all.old + count) }
+    ensures bytes { IfOk result (λ count. (bytes : List ℕ) × (all.new.items ≡ all.old.items ++ bytes)
+        × Consumes (S.seen.left src.old) (S.seen.left src.new) bytes) }
+    ensures end { IfOk result (λ count. count < wanted → IsAtEnd (S.seen.left src.new)) }
+    ensures faults_later { S.seen.faults src.old ≤ S.seen.faults src.new }
+    ensures failed { OnErr result (Rose (S.seen.faults src.old) (S.seen.faults src.new)) }
+    ensures unfailed { OnOk result (S.seen.faults src.new ≡ S.seen.faults src.old) }
+    ensures taken { OnErr result (ConsumesSome (S.seen.left src.old) (S.seen.left src.new) (λ count. count < wanted)) }
+    ensures capacity { vec_capacity all.old ≤ vec_capacity all.new }
+{
+    let before = all.len();
+    all.resize(before + wanted, 0).unwrap();
+    let count = fill(src, &mut all[before..])?;
+    all.truncate(before + count);
+    Ok(count)
+}
+
 /// Reads all that is left, where it is at most `limit` bytes. Room for one byte more is taken before the first read.
 pub fn read_all<S: Source>(alloc: Global, src: &mut S, limit: u32) -> Result<Vec<u8>, ReadStop>
     ensures bytes { IfOk result (λ all. Consumes (S.seen.left src.old) (S.seen.left src.new) all.items) }
@@ -73,15 +97,17 @@ pub fn read_all<S: Source>(alloc: Global, src: &mut S, limit: u32) -> Result<Vec
     ensures faults_later { S.seen.faults src.old ≤ S.seen.faults src.new }
 {
     let room = limit as usize + 1;
-    let Ok(mut all) = vec![in alloc; 0u8; room] else {
+    let Ok(mut all) = Vec::with_capacity(alloc, room) else {
         return Err(ReadStop::NoMemory);
     };
-    let Ok(count) = fill(src, &mut all) else {
-        return Err(ReadStop::Failed);
-    };
-    if count == room {
-        return Err(ReadStop::TooLong);
+    while all.len() < room {
+        let wanted = PIECE.min(room - all.len());
+        let Ok(count) = add_piece(src, &mut all, wanted) else {
+            return Err(ReadStop::Failed);
+        };
+        if count < wanted {
+            return Ok(all);
+        }
     }
-    all.truncate(count);
-    Ok(all)
+    Err(ReadStop::TooLong)
 }

@@ -12,6 +12,20 @@ pub fn read_term(text: &[u8]) -> Option<Component>
     ensures value { result ≡ term_of text.now }
     ensures small { IfSome result (IsSumOf 1) }
 {
+    // Most terms are a letter alone.
+    match text {
+        b"x" => times(1, b'x'),
+        b"y" => times(1, b'y'),
+        b"z" => times(1, b'z'),
+        _ => by_marks(text),
+    }
+}
+
+/// By what the term has: a star, else a slash, else a point, else none of them.
+fn by_marks(text: &[u8]) -> Option<Component>
+    ensures value { result ≡ term_of text.now }
+    ensures small { IfSome result (IsSumOf 1) }
+{
     if let Some((front, back)) = cut_at(text, b'*') {
         return product(without_blanks_after(front), without_blanks_before(back));
     }
