@@ -25,7 +25,7 @@ pub use point::Point;
 pub use raw::Raw;
 
 /// The number of parts of a cell in which translations are counted.
-pub const UNIT: u32 = 12;
+pub const UNIT: u32 = 24;
 
 /// The greatest size of an entry of a matrix that is read. No triplet has a greater one: each byte of a line adds at most 9.
 pub const MAX_ENTRY: u32 = 2304;

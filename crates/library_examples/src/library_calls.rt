@@ -6,7 +6,7 @@ use exact_ops::{Move, Point, UNIT, inverse};
 use orbit_map::multiplicity;
 use site_symmetry::order_at;
 use std::test::Fail;
-use triplet_text::{print_affine, print_move, print_triplet};
+use triplet_text::{print_affine, print_frac, print_move, print_triplet};
 
 fn element(text: &str, shift: [i64; 3]) -> Result<Move, Fail>
     requires { IsShiftInRange (column_of shift) }
@@ -17,6 +17,14 @@ fn element(text: &str, shift: [i64; 3]) -> Result<Move, Fail>
     })
 }
 
+/// 7/6 is a cell and four twenty-fourths, -1/4 is a cell back and eighteen, and an eighth is three.
+#[test]
+fn parts_of_a_cell(rt: HostRuntime) -> Result<(), Fail> {
+    assert_eq!(rt; op_of("+x, y , z+7/6")?.t(), [0, 0, 4]);
+    assert_eq!(rt; op_of("-x-1/4,y+.125,z-1/24")?.t(), [18, 3, 23]);
+    Ok(())
+}
+
 #[test]
 fn inverse_of_a_threefold_screw(rt: HostRuntime) -> Result<(), Fail> {
     let back = inverse(&op_of("-y,x-y,z+1/3")?).ok_or("beyond 2")?;
@@ -24,18 +32,15 @@ fn inverse_of_a_threefold_screw(rt: HostRuntime) -> Result<(), Fail> {
     Ok(())
 }
 
-/// y,x,-z and the shift 1,0,-1 take 1/2,1/3,0 to 4/3,1/2,-1.
+/// y,x,-z and the shift 1,0,-1 take 1/2,1/3,0 to 4/3,1/2,-1, both over 24 times 6.
 #[test]
 fn image_of_a_point(rt: HostRuntime) -> Result<(), Fail> {
     let p = Point::of_coords([(1, 2), (1, 3), (0, 1)]).ok_or("out of range")?;
+    assert_eq!(rt; (p.n, p.d), ([72, 48, 0], 144));
     let image = element("y,x,-z", [1, 0, -1])?
         .apply(&p)
         .ok_or("out of range")?;
-    assert_eq!(rt;
-        image.n.map(|n| n.wrapping_mul(6)),
-        [8, 3, -6].map(|n| p.d.wrapping_mul(n))
-    );
-    assert_eq!(rt; image.d, p.d);
+    assert_eq!(rt; (image.n, image.d), ([192, 72, -144], 144));
     Ok(())
 }
 
@@ -87,4 +92,30 @@ fn order_and_multiplicity(rt: HostRuntime) -> Result<(), Fail> {
 fn text_of_an_affine_map(rt: HostRuntime) {
     let halves = print_affine(&[1, 1, 0, 1, -1, 0, 0, 0, 2], 2, &[0, 0, 2 * UNIT as i64]);
     assert_eq!(rt; halves.bytes(), b"1/2*x+1/2*y,1/2*x-1/2*y,z+1".as_slice());
+}
+
+/// The greatest translation over the greatest denominator: 260,000,000,000 / 4,608.
+#[test]
+fn text_of_the_greatest_affine_map(rt: HostRuntime) {
+    let greatest = 260_000_000_000;
+    let map = print_affine(
+        &[384, -1, 0, 0, 192, 0, 0, 0, 1],
+        192,
+        &[greatest, -greatest, 1],
+    );
+    assert_eq!(rt;
+        map.bytes(),
+        b"2*x-1/192*y+507812500/9,y-507812500/9,1/192*z+1/4608".as_slice()
+    );
+}
+
+/// A coordinate over the greatest denominator of a point.
+#[test]
+fn text_of_a_fraction(rt: HostRuntime) {
+    let d = 24_000_000_000_000_000_000;
+    let last = print_frac(1 - d, d);
+    assert_eq!(rt;
+        last.bytes(),
+        b"-23999999999999999999/24000000000000000000".as_slice()
+    );
 }

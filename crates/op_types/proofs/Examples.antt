@@ -6,6 +6,7 @@ use Rattle.lattice_algebra.specs.Operator.{Operator, HasEntriesWithin, AreWithin
 use Rattle.lattice_algebra.specs.Map.{◌∘◌, map_of}
 use Rattle.lattice_algebra.specs.Powers.{power, sum_of_powers, IsOrder}
 use Rattle.lattice_algebra.proofs.Examples.{column, minus, inversion, threefold, its_order}
+use Rattle.exact_ops.specs.declared.TheConstants.{UNIT}
 use Rattle.op_types.specs.Axis.{IsMultiple, IsDirected, HasNoDivisor}
 use Rattle.op_types.specs.SmallPowers.{HasSmallPowers}
 use Rattle.op_types.specs.IntrinsicPart.{IsIntrinsicPart, repeated}
@@ -24,9 +25,9 @@ one_order w j k a b =
     omega arith
 
 abbrev screw : Operator
-screw = record { w = threefold; t = column (pos 4) o (pos 8) }
+screw = record { w = threefold; t = column (pos 8) o (pos 16) }
 
-screw_three_times : repeated (map_of screw) 3 ≡ record { w = identity; s = column o o (pos 24) }
+screw_three_times : repeated (map_of screw) 3 ≡ record { w = identity; s = column o o (pos 48) }
 unfolding repeated ◌∘◌ ◌·◌ ◌·ᶜ◌ ◌+ᶜ◌
 screw_three_times = refl
 
@@ -43,8 +44,8 @@ not_screw_part : IsIntrinsicPart screw (column o o minus) (pos 3) → ⊥
 unfolding sum_of_powers power times ◌·◌ ◌+ᵐ◌ ◌·ᶜ◌
 not_screw_part h =
     let k : h.order ≡ 3 = one_order threefold h.order 3 h.is_order its_order in
-    let e = ap (λ (c : Column). c.z) (subst (λ k. times (pos (12 * k)) (column o o minus) ≡ times (pos 3) (sum_of_powers threefold k ·ᶜ screw.t)) k h.equal) in
-    let z : negsuc 35 ≡ pos 72 = e in
+    let e = ap (λ (c : Column). c.z) (subst (λ k. times (pos (UNIT * k)) (column o o minus) ≡ times (pos 3) (sum_of_powers threefold k ·ᶜ screw.t)) k h.equal) in
+    let z : negsuc 71 ≡ pos 144 = e in
     omega (arith, ints)
 
 -- ---- axes

@@ -1,4 +1,4 @@
--- Worked examples of averages, keys and rows: the definitions on literals, in parts of a cell of 12.
+-- Worked examples of averages, keys and rows: the definitions on literals, in parts of a cell of 24.
 use Rattle.std.proofs.Common.{◌≡◌, ◌≢◌, ◌∷◌, [], ℕ, inl, inr, ⊎_elim, List, ℤ, pos, negsuc, ◌+ℤ◌, ◌*ℤ◌, Contains, ap, refl, subst, arith}
 use Rattle.std.proofs.lemmas.Int.{ints}
 use Rattle.std.proofs.lemmas.List.Kept.{AllPairs-cons}
@@ -34,42 +34,42 @@ o = pos 0
 abbrev inverted : ℤ → Map
 inverted x = record { w = inversion; s = column x o o }
 
--- its average with the identity, over the 2 operators of the group: a matrix of zeros and the translation 12 of 24 in x
+-- its average with the identity, over the 2 operators of the group: a matrix of zeros and the translation 24 of 48 in x
 abbrev middle : ℤ → Block
 middle x = record { m = no_matrix; t = column x o o; n = pos 2 }
 
-average_at_half : IsMean 2 (identity_map ∷ inverted (pos 12) ∷ []) (middle (pos 12))
+average_at_half : IsMean 2 (identity_map ∷ inverted (pos 24) ∷ []) (middle (pos 24))
 unfolding block_scaled block_plus block_of scaled times ◌+ᵐ◌ ◌+ᶜ◌
 average_at_half = refl
 
--- and not 6 of 24
-no_average : IsMean 2 (identity_map ∷ inverted (pos 12) ∷ []) (middle (pos 6)) → ⊥
+-- and not 12 of 48
+no_average : IsMean 2 (identity_map ∷ inverted (pos 24) ∷ []) (middle (pos 12)) → ⊥
 unfolding block_scaled block_plus block_of scaled times ◌+ᵐ◌ ◌+ᶜ◌
-no_average e = let x : pos 12 ≡ pos 24 = ap (λ (a : Block). a.t.x) e in omega (arith, ints)
+no_average e = let x : pos 24 ≡ pos 48 = ap (λ (a : Block). a.t.x) e in omega (arith, ints)
 
 -- a point and its image by the inversion add up to twice the centre
 abbrev five_twelfths : Vector
-five_twelfths = record { p = column (pos 5) o o; d = pos 1 }
+five_twelfths = record { p = column (pos 10) o o; d = pos 1 }
 
-twice_the_centre : vector_plus (block_on (block_of identity_map) five_twelfths) (block_on (block_of (inverted (pos 12))) five_twelfths) ≡ record { p = column (pos 12) o o; d = pos 2 }
+twice_the_centre : vector_plus (block_on (block_of identity_map) five_twelfths) (block_on (block_of (inverted (pos 24))) five_twelfths) ≡ record { p = column (pos 24) o o; d = pos 2 }
 unfolding vector_plus block_on block_of times ◌·ᶜ◌ ◌+ᶜ◌
 twice_the_centre = refl
 
--- the point n / 12,0,0
+-- the point n / 24,0,0
 abbrev on_x : ℤ → ScaledPoint
 on_x n = record { n = column n o o; d = 1; some = omega arith }
 
 -- its image is 1/2,0,0, and not 3/2,0,0
-half_in_image : IsInImage (middle (pos 12)) (on_x (pos 6))
+half_in_image : IsInImage (middle (pos 24)) (on_x (pos 12))
 unfolding times ◌·ᶜ◌ ◌+ᶜ◌
 half_in_image = refl
 
-not_in_image : IsInImage (middle (pos 12)) (on_x (pos 18)) → ⊥
+not_in_image : IsInImage (middle (pos 24)) (on_x (pos 36)) → ⊥
 unfolding times ◌·ᶜ◌ ◌+ᶜ◌
-not_in_image e = let x : pos 12 ≡ pos 36 = ap (λ (c : Column). c.x) e in omega (arith, ints)
+not_in_image e = let x : pos 24 ≡ pos 72 = ap (λ (c : Column). c.x) e in omega (arith, ints)
 
 -- the inversions at 1/2,0,0 and at the origin fix no point together
-no_common_point : (y : ScaledPoint) → moved (inverted (pos 12)) y ≡ y → moved (inverted o) y ≡ y → ⊥
+no_common_point : (y : ScaledPoint) → moved (inverted (pos 24)) y ≡ y → moved (inverted o) y ≡ y → ⊥
 unfolding moved times ◌·ᶜ◌ ◌+ᶜ◌
 no_common_point y p q =
     let a = ap (λ (v : ScaledPoint). v.n.x) p in
@@ -79,10 +79,10 @@ no_common_point y p q =
 
 -- -y+1,x-y+1,z and its square -x+y,-x+1,z fix the line 1/3,2/3,z: the average with the identity, over 3 operators, is 1/3,2/3,z
 abbrev turned : Map
-turned = record { w = threefold; s = column (pos 12) (pos 12) o }
+turned = record { w = threefold; s = column (pos 24) (pos 24) o }
 
 abbrev turned_back : Map
-turned_back = record { w = threefold_back; s = column o (pos 12) o }
+turned_back = record { w = threefold_back; s = column o (pos 24) o }
 
 turned_twice : turned ∘ turned ≡ turned_back
 unfolding ◌∘◌ ◌·◌ ◌·ᶜ◌ ◌+ᶜ◌
@@ -94,79 +94,79 @@ z_only = matrix_of (o ∷ o ∷ o ∷ o ∷ o ∷ o ∷ o ∷ o ∷ pos 3 ∷ []
 abbrev line : ℤ → ℤ → Block
 line x y = record { m = z_only; t = column x y o; n = pos 3 }
 
-average_on_line : IsMean 3 (identity_map ∷ turned ∷ turned_back ∷ []) (line (pos 12) (pos 24))
+average_on_line : IsMean 3 (identity_map ∷ turned ∷ turned_back ∷ []) (line (pos 24) (pos 48))
 unfolding block_scaled block_plus block_of scaled times ◌+ᵐ◌ ◌+ᶜ◌
 average_on_line = refl
 
 -- it has each point 1/3,2/3,z in its image, and is idempotent
-line_in_image : (z : ℤ) → IsInImage (line (pos 12) (pos 24)) (record { n = column (pos 4) (pos 8) z; d = 1; some = omega arith })
+line_in_image : (z : ℤ) → IsInImage (line (pos 24) (pos 48)) (record { n = column (pos 8) (pos 16) z; d = 1; some = omega arith })
 unfolding times ◌·ᶜ◌ ◌+ᶜ◌
 line_in_image z = λ i. record { x = first z i; y = second z i; z = third z i }
   where
-    first : (z : ℤ) → o *ℤ pos 4 +ℤ o *ℤ pos 8 +ℤ o *ℤ z +ℤ pos 1 *ℤ pos 12 ≡ pos 3 *ℤ pos 4
+    first : (z : ℤ) → o *ℤ pos 8 +ℤ o *ℤ pos 16 +ℤ o *ℤ z +ℤ pos 1 *ℤ pos 24 ≡ pos 3 *ℤ pos 8
     first z = omega (arith, ints)
 
-    second : (z : ℤ) → o *ℤ pos 4 +ℤ o *ℤ pos 8 +ℤ o *ℤ z +ℤ pos 1 *ℤ pos 24 ≡ pos 3 *ℤ pos 8
+    second : (z : ℤ) → o *ℤ pos 8 +ℤ o *ℤ pos 16 +ℤ o *ℤ z +ℤ pos 1 *ℤ pos 48 ≡ pos 3 *ℤ pos 16
     second z = omega (arith, ints)
 
-    third : (z : ℤ) → o *ℤ pos 4 +ℤ o *ℤ pos 8 +ℤ pos 3 *ℤ z +ℤ pos 1 *ℤ o ≡ pos 3 *ℤ z
+    third : (z : ℤ) → o *ℤ pos 8 +ℤ o *ℤ pos 16 +ℤ pos 3 *ℤ z +ℤ pos 1 *ℤ o ≡ pos 3 *ℤ z
     third z = omega (arith, ints)
 
-line_is_idempotent : block_times (line (pos 12) (pos 24)) (line (pos 12) (pos 24)) ≡ block_scaled (pos 3) (line (pos 12) (pos 24))
+line_is_idempotent : block_times (line (pos 24) (pos 48)) (line (pos 24) (pos 48)) ≡ block_scaled (pos 3) (line (pos 24) (pos 48))
 unfolding block_times block_scaled scaled times ◌·◌ ◌·ᶜ◌ ◌+ᶜ◌
 line_is_idempotent = refl
 
 -- at 1/7,5/7,3/7 it has the value 1/3,2/3,3/7
-value_on_line : vector_scaled (pos 7) (block_on (line (pos 12) (pos 24)) (record { p = column (pos 12) (pos 60) (pos 36); d = pos 7 })) ≡ vector_scaled (pos 7) (record { p = column (pos 84) (pos 168) (pos 108); d = pos 21 })
+value_on_line : vector_scaled (pos 7) (block_on (line (pos 24) (pos 48)) (record { p = column (pos 24) (pos 120) (pos 72); d = pos 7 })) ≡ vector_scaled (pos 7) (record { p = column (pos 168) (pos 336) (pos 216); d = pos 21 })
 unfolding block_on vector_scaled times ◌·ᶜ◌ ◌+ᶜ◌
 value_on_line = refl
 
 -- ---- keys
 
 -- -y,x-y,z carries 1/3,2/3,z to -2/3,-1/3,z: modulo 1 it is 1/3,2/3,z
-carried_line : carried (record { w = threefold; s = origin }) (line (pos 12) (pos 24)) ≡ line (negsuc 23) (negsuc 11)
+carried_line : carried (record { w = threefold; s = origin }) (line (pos 24) (pos 48)) ≡ line (negsuc 47) (negsuc 23)
 unfolding carried block_times block_of undo det adjugate scaled times ◌·◌ ◌·ᶜ◌ ◌+ᶜ◌ neg_column
 carried_line = refl
 
-carried_key : key_of 12 3 (line (negsuc 23) (negsuc 11)) ≡ record { m = z_only; t = column (pos 12) (pos 24) o }
+carried_key : key_of 24 3 (line (negsuc 47) (negsuc 23)) ≡ record { m = z_only; t = column (pos 24) (pos 48) o }
 unfolding key_of modulo
 carried_key = refl
 
 -- a translation by 1,2,0 carries it to 4/3,8/3,z
-shifted_line : carried (shift_by 12 (column (pos 1) (pos 2) o)) (line (pos 12) (pos 24)) ≡ line (pos 48) (pos 96)
+shifted_line : carried (shift_by 24 (column (pos 1) (pos 2) o)) (line (pos 24) (pos 48)) ≡ line (pos 96) (pos 192)
 unfolding carried block_times block_of undo det adjugate scaled times ◌·◌ ◌·ᶜ◌ ◌+ᶜ◌ neg_column
 shifted_line = refl
 
 -- the average of the inversion at 3/2,0,0 is 3/2,0,0; a shift by -1 along x makes that at 1/2,0,0 of it
-average_at_three_halves : IsMean 2 (identity_map ∷ inverted (pos 36) ∷ []) (middle (pos 36))
+average_at_three_halves : IsMean 2 (identity_map ∷ inverted (pos 72) ∷ []) (middle (pos 72))
 unfolding block_scaled block_plus block_of scaled times ◌+ᵐ◌ ◌+ᶜ◌
 average_at_three_halves = refl
 
-moved_near : shift_by 12 (column minus o o) ∘ inverted (pos 36) ∘ undo (shift_by 12 (column minus o o)) ≡ inverted (pos 12)
+moved_near : shift_by 24 (column minus o o) ∘ inverted (pos 72) ∘ undo (shift_by 24 (column minus o o)) ≡ inverted (pos 24)
 unfolding ◌∘◌ undo det adjugate scaled times ◌·◌ ◌·ᶜ◌ ◌+ᶜ◌ neg_column
 moved_near = refl
 
-carried_near : carried (shift_by 12 (column minus o o)) (middle (pos 36)) ≡ middle (pos 12)
+carried_near : carried (shift_by 24 (column minus o o)) (middle (pos 72)) ≡ middle (pos 24)
 unfolding carried block_times block_of undo det adjugate scaled times ◌·◌ ◌·ᶜ◌ ◌+ᶜ◌ neg_column
 carried_near = refl
 
--- both have the key 12 of 24
-one_key : key_of 12 2 (middle (pos 36)) ≡ key_of 12 2 (middle (pos 12))
+-- both have the key 24 of 48
+one_key : key_of 24 2 (middle (pos 72)) ≡ key_of 24 2 (middle (pos 24))
 unfolding key_of modulo
 one_key = refl
 
 -- x,-y+1/2,z+1/2 carries the average of the inversion at 0,1/2,1/2, over the 4 operators of P2_1/c, to 0,0,1: its key is that of 0,0,0
 abbrev glide : Map
-glide = record { w = matrix_of (pos 1 ∷ o ∷ o ∷ o ∷ minus ∷ o ∷ o ∷ o ∷ pos 1 ∷ []); s = column o (pos 6) (pos 6) }
+glide = record { w = matrix_of (pos 1 ∷ o ∷ o ∷ o ∷ minus ∷ o ∷ o ∷ o ∷ pos 1 ∷ []); s = column o (pos 12) (pos 12) }
 
 abbrev on_yz : ℤ → ℤ → Block
 on_yz y z = record { m = no_matrix; t = column o y z; n = pos 4 }
 
-carried_by_glide : carried glide (on_yz (pos 24) (pos 24)) ≡ on_yz o (pos 48)
+carried_by_glide : carried glide (on_yz (pos 48) (pos 48)) ≡ on_yz o (pos 96)
 unfolding carried block_times block_of undo det adjugate scaled times ◌·◌ ◌·ᶜ◌ ◌+ᶜ◌ neg_column
 carried_by_glide = refl
 
-key_of_origin : key_of 12 4 (on_yz o (pos 48)) ≡ key_of 12 4 (on_yz o o)
+key_of_origin : key_of 24 4 (on_yz o (pos 96)) ≡ key_of 24 4 (on_yz o o)
 unfolding key_of modulo
 key_of_origin = refl
 
@@ -174,17 +174,17 @@ key_of_origin = refl
 abbrev key : Matrix → ℤ → ℤ → Key
 key m x z = record { m = m; t = column x o z }
 
-greater_matrix_first : ComesBefore (key z_only (pos 12) o) (key no_matrix o o)
+greater_matrix_first : ComesBefore (key z_only (pos 24) o) (key no_matrix o o)
 greater_matrix_first = inl (inr (refl, inr (refl, inr (refl, inr (refl, inr (refl, inr (refl, inr (refl, inr (refl, inl (omega (arith, ints)))))))))))
 
-lesser_translation_first : ComesBefore (key no_matrix o (pos 12)) (key no_matrix (pos 12) o)
+lesser_translation_first : ComesBefore (key no_matrix o (pos 24)) (key no_matrix (pos 24) o)
 lesser_translation_first = inr (refl, inl (omega (arith, ints)))
 
-not_first : ComesBefore (key no_matrix (pos 12) o) (key no_matrix o (pos 12)) → ⊥
+not_first : ComesBefore (key no_matrix (pos 24) o) (key no_matrix o (pos 24)) → ⊥
 not_first l =
     let row : Key → Row = λ k. record { mult = 1; key = k } in
-    let p = key no_matrix o (pos 12) in
-    let q = key no_matrix (pos 12) o in
+    let p = key no_matrix o (pos 24) in
+    let q = key no_matrix (pos 24) o in
     row_not_itself (row p) (row_on (row p) (row q) (row p) (inr (refl, lesser_translation_first)) (inr (refl, l)))
 
 -- a list comes before a longer one that it begins, and not behind it
@@ -194,21 +194,21 @@ shorter_first = inr (refl, tt)
 -- ---- rows
 
 -- 4/3,-1/3,5 lies on the row 1/3,2/3,z: it is 1/3,2/3,5 and the whole cells 1,-1,0
-on_row : Lies 12 3 (record { m = z_only; t = column (pos 12) (pos 24) o }) (record { n = column (pos 4) minus (pos 15); d = pos 3 })
+on_row : Lies 24 3 (record { m = z_only; t = column (pos 24) (pos 48) o }) (record { n = column (pos 4) minus (pos 15); d = pos 3 })
 unfolding row_point times ◌·ᶜ◌ ◌+ᶜ◌
 on_row = record { at = record { n = column o o (pos 5); d = pos 1 }; is_point = omega (arith, ints); whole = column (pos 1) minus o; equal = refl }
 
 -- and 2/3,1/3,5 does not
-not_on_row : Lies 12 3 (record { m = z_only; t = column (pos 12) (pos 24) o }) (record { n = column (pos 2) (pos 1) (pos 15); d = pos 3 }) → ⊥
+not_on_row : Lies 24 3 (record { m = z_only; t = column (pos 24) (pos 48) o }) (record { n = column (pos 2) (pos 1) (pos 15); d = pos 3 }) → ⊥
 unfolding row_point times ◌·ᶜ◌ ◌+ᶜ◌
 not_on_row l =
     let d = l.at.d in
     let k = l.whole.x in
-    let e = cancel_number (pos 36 *ℤ d) (pos 1) (pos 3 *ℤ k) (let h = l.is_point in omega (arith, ints))
+    let e = cancel_number (pos 72 *ℤ d) (pos 1) (pos 3 *ℤ k) (let h = l.is_point in omega (arith, ints))
     (ring_from (d ∷ k ∷ l.at.n.x ∷ l.at.n.y ∷ l.at.n.z ∷ [])
-    ((con (pos 36) ⊗ var 0) ⊗ con (pos 1)) ((con (pos 36) ⊗ var 0) ⊗ (con (pos 3) ⊗ var 1))
-    (known (con (pos 1)) ((con (pos 36) ⊗ var 0) ⊗ con (pos 2))
-    (con (pos 3) ⊗ ((con (pos 12) ⊗ (con o ⊗ var 2 ⊕ con o ⊗ var 3 ⊕ con o ⊗ var 4) ⊕ var 0 ⊗ con (pos 12)) ⊕ (con (pos 36) ⊗ var 0) ⊗ var 1)) ∷ [])
+    ((con (pos 72) ⊗ var 0) ⊗ con (pos 1)) ((con (pos 72) ⊗ var 0) ⊗ (con (pos 3) ⊗ var 1))
+    (known (con (pos 1)) ((con (pos 72) ⊗ var 0) ⊗ con (pos 2))
+    (con (pos 3) ⊗ ((con (pos 24) ⊗ (con o ⊗ var 2 ⊕ con o ⊗ var 3 ⊕ con o ⊗ var 4) ⊕ var 0 ⊗ con (pos 24)) ⊕ (con (pos 72) ⊗ var 0) ⊗ var 1)) ∷ [])
     (ap (λ (c : Column). c.x) l.equal, tt) tt) in
     omega (arith, ints)
 
@@ -222,11 +222,11 @@ axis x = record { mult = 1; key = record { m = z_only; t = column x o o } }
 general_first : IsRowBefore general (axis o)
 general_first = inl (omega arith)
 
-axes_in_order : IsRowBefore (axis o) (axis (pos 12))
+axes_in_order : IsRowBefore (axis o) (axis (pos 24))
 axes_in_order = inr (refl, inr (refl, inl (omega (arith, ints))))
 
-not_in_order : IsRowBefore (axis (pos 12)) (axis o) → ⊥
-not_in_order l = row_not_itself (axis o) (row_on (axis o) (axis (pos 12)) (axis o) axes_in_order l)
+not_in_order : IsRowBefore (axis (pos 24)) (axis o) → ⊥
+not_in_order l = row_not_itself (axis o) (row_on (axis o) (axis (pos 24)) (axis o) axes_in_order l)
 
 second_place : IsAt (general ∷ axis o ∷ []) 1 (axis o)
 second_place = record { within = omega arith; is = λ d. refl }
@@ -235,7 +235,7 @@ second_place = record { within = omega arith; is = λ d. refl }
 
 -- 1/2*x+1/2*y,1/2*x+1/2*y,0 over 2: twice its matrix is whole, and once is not
 abbrev diagonal : Block
-diagonal = record { m = matrix_of (pos 1 ∷ pos 1 ∷ o ∷ pos 1 ∷ pos 1 ∷ o ∷ o ∷ o ∷ o ∷ []); t = column (pos 30) (negsuc 29) o; n = pos 2 }
+diagonal = record { m = matrix_of (pos 1 ∷ pos 1 ∷ o ∷ pos 1 ∷ pos 1 ∷ o ∷ o ∷ o ∷ o ∷ []); t = column (pos 60) (negsuc 59) o; n = pos 2 }
 
 whole_at_two : IsWhole 2 (matrix_of (pos 1 ∷ pos 1 ∷ o ∷ pos 1 ∷ pos 1 ∷ o ∷ o ∷ o ∷ o ∷ [])) diagonal
 unfolding scaled
@@ -245,34 +245,34 @@ not_whole : (r : Matrix) → IsWhole 1 r diagonal → ⊥
 unfolding scaled
 not_whole r e = let x : pos 1 ≡ pos 2 *ℤ r.xx = ap (λ (m : Matrix). m.xx) e in omega (arith, ints)
 
--- with the translation 30 of 24 in x its coordinates are at most 2 + 5/4, so at most 4 and not at most 3, for x and y from 0 to 2
+-- with the translation 60 of 48 in x its coordinates are at most 2 + 5/4, so at most 4 and not at most 3, for x and y from 0 to 2
 abbrev sizes : ℕ → Sizes
 sizes n = record { x = n; y = n; z = 0 }
 
-reach_four : IsReach 12 2 2 (sizes 4) diagonal
+reach_four : IsReach 24 2 2 (sizes 4) diagonal
 reach_four = record { x = omega arith; y = omega arith; z = omega arith }
 
-not_reach_three : IsReach 12 2 2 (sizes 3) diagonal → ⊥
+not_reach_three : IsReach 24 2 2 (sizes 3) diagonal → ⊥
 not_reach_three r = omega (arith, r.x)
 
 -- 13/4,-13/4,0 is as near, and 17/4,0,0 is not
-near_four : IsNear 12 (sizes 4) (record { n = column (pos 39) (negsuc 38) o; d = 1; some = omega arith })
+near_four : IsNear 24 (sizes 4) (record { n = column (pos 78) (negsuc 77) o; d = 1; some = omega arith })
 near_four = record { x = omega arith; y = omega arith; z = omega arith }
 
-not_near : IsNear 12 (sizes 4) (record { n = column (pos 51) o o; d = 1; some = omega arith }) → ⊥
+not_near : IsNear 24 (sizes 4) (record { n = column (pos 102) o o; d = 1; some = omega arith }) → ⊥
 not_near n = omega (arith, n.x)
 
 -- -x+8,-y-8,-z fixes 4,-4,0; with -x+9,-y,-z it would be 9/2,0,0
 abbrev inversion_at : ℤ → ℤ → Map
-inversion_at x y = record { w = inversion; s = times (pos 12) (column x y o) }
+inversion_at x y = record { w = inversion; s = times (pos 24) (column x y o) }
 
-in_box : IsInBox 12 (sizes 4) (inversion_at (pos 8) (negsuc 7))
+in_box : IsInBox 24 (sizes 4) (inversion_at (pos 8) (negsuc 7))
 unfolding modulo times ◌+ᶜ◌
 in_box = record { shift = column (pos 8) (negsuc 7) o; is_shift = refl; x = omega arith; y = omega arith; z = omega arith }
 
-not_in_box : IsInBox 12 (sizes 4) (inversion_at (pos 9) o) → ⊥
+not_in_box : IsInBox 24 (sizes 4) (inversion_at (pos 9) o) → ⊥
 unfolding modulo times ◌+ᶜ◌
-not_in_box b = let e : pos 108 ≡ o +ℤ pos 12 *ℤ b.shift.x = ap (λ (c : Column). c.x) b.is_shift in let l = b.x in omega (arith, ints, e, l)
+not_in_box b = let e : pos 216 ≡ o +ℤ pos 24 *ℤ b.shift.x = ap (λ (c : Column). c.x) b.is_shift in let l = b.x in omega (arith, ints, e, l)
 
 -- ---- conjugate points
 
@@ -288,30 +288,30 @@ in_three f c P a b d =
     ⊎_elim (λ e. subst P e a) (λ r. ⊎_elim (λ e. subst P e b) (λ t. ⊎_elim (λ e. subst P e d) (λ n. lists.not_in_nil f n) (lists.Contains-cases f (turn threefold_back) [] t)) (lists.Contains-cases f (turn threefold) (turn threefold_back ∷ []) r))
     (lists.Contains-cases f (turn identity) (turn threefold ∷ turn threefold_back ∷ []) c)
 
-three_products : (f g : Operator) → Contains three f → Contains three g → Contains three (product 12 f g)
+three_products : (f g : Operator) → Contains three f → Contains three g → Contains three (product 24 f g)
 unfolding product modulo ◌·◌ ◌·ᶜ◌ ◌+ᶜ◌
 three_products f g p q =
     let one : Contains three (turn identity) = (0, omega arith, refl) in
     let two : Contains three (turn threefold) = (1, omega arith, refl) in
     let back : Contains three (turn threefold_back) = (2, omega arith, refl) in
-    let at : Operator → Type 0 = λ f. (g : Operator) → Contains three g → Contains three (product 12 f g) in
+    let at : Operator → Type 0 = λ f. (g : Operator) → Contains three g → Contains three (product 24 f g) in
     in_three f p at
-    (λ g q. in_three g q (λ g. Contains three (product 12 (turn identity) g)) one two back)
-    (λ g q. in_three g q (λ g. Contains three (product 12 (turn threefold) g)) two back one)
-    (λ g q. in_three g q (λ g. Contains three (product 12 (turn threefold_back) g)) back one two)
+    (λ g q. in_three g q (λ g. Contains three (product 24 (turn identity) g)) one two back)
+    (λ g q. in_three g q (λ g. Contains three (product 24 (turn threefold) g)) two back one)
+    (λ g q. in_three g q (λ g. Contains three (product 24 (turn threefold_back) g)) back one two)
     g q
 
-turn_is_operator : (w : Matrix) → IsUnimodular w → IsOperator 12 (turn w)
-turn_is_operator w u = record { unimodular = u; in_cell = (operators 12 some_parts).one_in.in_cell }
+turn_is_operator : (w : Matrix) → IsUnimodular w → IsOperator 24 (turn w)
+turn_is_operator w u = record { unimodular = u; in_cell = (operators 24 some_parts).one_in.in_cell }
 
-three_closed : IsClosedList (operators 12 some_parts) three
+three_closed : IsClosedList (operators 24 some_parts) three
 unfolding ◌·◌
 three_closed = record {
-  distinct = IsDistinct-from_AllPairs (operators 12 some_parts).same three
+  distinct = IsDistinct-from_AllPairs (operators 24 some_parts).same three
       (AllPairs-cons (λ f g. f ≢ g) (turn identity) (turn threefold ∷ turn threefold_back ∷ [])
       (All-from_recursion (λ g. turn identity ≢ g) (turn threefold ∷ turn threefold_back ∷ []) (λ e. apart _ _ e (λ x. let y : pos 1 ≡ o = x in omega (arith, ints)), (λ e. apart _ _ e (λ x. let y : pos 1 ≡ minus = x in omega (arith, ints)), tt)))
       (AllPairs-cons (λ f g. f ≢ g) (turn threefold) (turn threefold_back ∷ []) (All-from_recursion (λ g. turn threefold ≢ g) (turn threefold_back ∷ []) (λ e. apart _ _ e (λ x. let y : o ≡ minus = x in omega (arith, ints)), tt)) (λ i j d l m. absurd (omega arith))));
-  valid = All-from_recursion (IsOperator 12) three ((operators 12 some_parts).one_in, (turn_is_operator threefold (threefold_back, refl, refl), (turn_is_operator threefold_back (threefold, refl, refl), tt)));
+  valid = All-from_recursion (IsOperator 24) three ((operators 24 some_parts).one_in, (turn_is_operator threefold (threefold_back, refl, refl), (turn_is_operator threefold_back (threefold, refl, refl), tt)));
   has_one = (0, omega arith, refl);
   closed = three_products;
 }
@@ -320,14 +320,14 @@ three_closed = record {
     apart f g e n = n (ap (λ (h : Operator). h.w.xx) e)
 
 abbrev L : SpaceGroup
-L = record { unit = 12; some = some_parts; members = three; closed = three_closed }
+L = record { unit = 24; some = some_parts; members = three; closed = three_closed }
 
 -- 1/3,2/3,0 and its image 4/3,-1/3,0 are conjugate
-image_is_conjugate : AreConjugate 12 three (point (pos 1) (pos 2) o (pos 3)) (point (pos 4) minus o (pos 3))
+image_is_conjugate : AreConjugate 24 three (point (pos 1) (pos 2) o (pos 3)) (point (pos 4) minus o (pos 3))
 unfolding image times ◌·ᶜ◌ ◌+ᶜ◌
 image_is_conjugate =
     let x = point (pos 1) (pos 2) o (pos 3) in
     let y = point (pos 4) minus o (pos 3) in
-    let g : Map = shift_by 12 (column (pos 1) minus o) in
+    let g : Map = shift_by 24 (column (pos 1) minus o) in
     let p : IsPoint x = omega (arith, ints) in
-    (conjugate_by_members L x y p (omega (arith, ints))).1 (g, shift_in L (column (pos 1) minus o), λ f c s e. same_site L (image 12 g x) y (IsPoint-image 12 some_parts g x p) (omega (arith, ints)) refl s)
+    (conjugate_by_members L x y p (omega (arith, ints))).1 (g, shift_in L (column (pos 1) minus o), λ f c s e. same_site L (image 24 g x) y (IsPoint-image 24 some_parts g x p) (omega (arith, ints)) refl s)

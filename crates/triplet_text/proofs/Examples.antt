@@ -5,20 +5,20 @@ use Rattle.lattice_algebra.specs.Matrix.{Column, scaled, times, identity, origin
 use Rattle.lattice_algebra.specs.Operator.{Operator}
 use Rattle.triplet_text.specs.Printing.{IsPrintable, IsSameMap}
 
--- x,y,z+1 over 2 has the translation 24, and over 1 the translation 12
+-- x,y,z+1 over 2 has the translation 48, and over 1 the translation 24
 abbrev doubled : ℤ → Operator
 doubled z = record { w = scaled (pos 2) identity; t = record { x = pos 0; y = pos 0; z = z } }
 
 abbrev single : Operator
-single = record { w = identity; t = record { x = pos 0; y = pos 0; z = pos 12 } }
+single = record { w = identity; t = record { x = pos 0; y = pos 0; z = pos 24 } }
 
-one_map : IsSameMap 2 (doubled (pos 24)) 1 single
+one_map : IsSameMap 2 (doubled (pos 48)) 1 single
 unfolding scaled times
 one_map = record { matrix = refl; translation = refl }
 
-other_map : IsSameMap 2 (doubled (pos 12)) 1 single → ⊥
+other_map : IsSameMap 2 (doubled (pos 24)) 1 single → ⊥
 unfolding times
-other_map s = let e : pos 12 ≡ pos 24 = ap (λ (c : Column). c.z) s.translation in omega (arith, ints)
+other_map s = let e : pos 24 ≡ pos 48 = ap (λ (c : Column). c.z) s.translation in omega (arith, ints)
 
 -- -2*x over 2 has the entry -4, within 4; over 1 it is beyond 2
 abbrev wide : Operator

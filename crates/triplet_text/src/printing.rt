@@ -14,7 +14,7 @@ use exact_ops::{MAX_SHIFT, Move, Op, UNIT};
 pub const OVER_LIMIT: u32 = 192;
 
 /// A constant of so many parts can be printed, on both sides of 0. That of a `Move` has at most `UNIT * MAX_SHIFT + UNIT - 1`.
-pub const PARTS_LIMIT: u64 = (UNIT as u64 + 1) * MAX_SHIFT;
+pub const PARTS_LIMIT: u64 = (UNIT as u64 + 2) * MAX_SHIFT;
 
 /// The triplet of an operator, with a reduced fraction for each number of its translation that is not 0.
 pub fn print_triplet(op: &Op) -> Text
