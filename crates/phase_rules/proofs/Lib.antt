@@ -1,3 +1,4 @@
 pub mod Rows
 pub mod Classes
 pub mod Phases
+pub mod SomeMark

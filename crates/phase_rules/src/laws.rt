@@ -7,6 +7,12 @@ ghost use Rattle.phase_rules.specs.Rows.{Row};
 ghost use Rattle.phase_rules.specs.Equivalent.{IsClass};
 ghost use Rattle.phase_rules.specs.Marks.{IsMark};
 
+/// Each row has a mark.
+pub fn mark_of_index()
+    ensures { (pairs : Pairs) (members : List Operator) (h : Row)
+        → (mark : Mark) × IsMark pairs members h mark }
+{}
+
 /// A row has one mark at most: all members that restrict the phase of a present reflection agree.
 pub fn one_mark()
     ensures { (pairs : Pairs) (members : List Operator) (h : Row) (a b : Mark) → IsGroup members

@@ -3,8 +3,9 @@
 //! at h W is that at h times exp(-2 pi i h.t).
 //!
 //! Proved: `mark` says absent, restricted to this phase, or neither, each exactly where it is so; `fixers` counts the members
-//! with h W = h; `class_size` is the number of different equivalents, those out of range too. An index has one mark, and so all
-//! members that restrict the phase of a present reflection agree (`one_mark`); each row has a class (`class_of_index`).
+//! with h W = h; `class_size` is the number of different equivalents, those out of range too. A row has one mark, and so all
+//! members that restrict the phase of a present reflection agree (`mark_of_index`, `one_mark`); each row has a class
+//! (`class_of_index`).
 #![tactic(auto)]
 
 pub mod index;
@@ -15,7 +16,7 @@ mod reflection;
 pub mod tallies;
 
 pub use index::Index;
-pub use laws::{class_of_index, one_mark};
+pub use laws::{class_of_index, mark_of_index, one_mark};
 pub use pairs::Pairs;
 pub use reflection::{class_size, fixers, mark};
 
