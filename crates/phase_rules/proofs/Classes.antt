@@ -56,7 +56,7 @@ module _ (pairs : Pairs) (members : List Operator) (group : IsGroup members) whe
   pub has_identity : Contains members identity_operator
   has_identity = contains_at members identity_operator 0 group.first
 
-  undone : (h : Row) (f : Operator) → Contains members f → (h ·ʳ f.w) ·ʳ (inverse UNIT f).w ≡ h
+  pub undone : (h : Row) (f : Operator) → Contains members f → (h ·ʳ f.w) ·ʳ (inverse UNIT f).w ≡ h
   undone h f m = ·ʳ_assoc h f.w (inverse UNIT f).w ∙ ap (λ m. h ·ʳ m) (inverse_is members f group m).right ∙ ·ʳ-identity h
 
   pub equivalent_itself : (h : Row) → AreEquivalent pairs members h h
@@ -120,7 +120,7 @@ module _ (members : List Operator) (group : IsGroup members) (h : Row) where
       let b = row_eq-is (neg_row e) z in
       same_from_decides (row_eq e (neg_row z)) (row_eq (neg_row e) z) a ((λ t. sym (neg_row-neg_row e) ∙ ap neg_row (b.0 t)), (λ p. b.1 (ap neg_row p ∙ neg_row-neg_row z)))
 
-  apart_law : (class : List Row) → IsClass Apart members h class → length members ≡ length class * count_by (fixes h) members
+  pub apart_law : (class : List Row) → IsClass Apart members h class → length members ≡ length class * count_by (fixes h) members
   apart_law class s = length-classes (λ (f : Operator) z. row_eq (h ·ʳ f.w) z) members class (count_by (fixes h) members)
       (λ i d l. let f = get_or members i d in once_in class s.once (h ·ʳ f.w) ((s.exactly (h ·ʳ f.w)).1 (record { by = f; member = Contains-get_or members i d l; same = refl })))
       (λ i d l. let z = get_or class i d in let r = (s.exactly z).0 (Contains-get_or class i d l) in (reached z r.by r.member r.same).0)
@@ -129,7 +129,7 @@ module _ (members : List Operator) (group : IsGroup members) (h : Row) where
   both : Row → Row → ℕ
   both e z = cond (row_eq e z) 1 0 + cond (row_eq e (neg_row z)) 1 0
 
-  friedel_law : (class : List Row) → IsClass Friedel members h class → length members * 2 ≡ length class * (count_by (fixes h) members + count_by (reverses h) members)
+  pub friedel_law : (class : List Row) → IsClass Friedel members h class → length members * 2 ≡ length class * (count_by (fixes h) members + count_by (reverses h) members)
   unfolding both
   friedel_law class s =
       let two : All (λ (f : Operator). sum_by (λ z. both (h ·ʳ f.w) z) class ≡ 2) members = λ i d l.

@@ -2,3 +2,4 @@ pub mod Rows
 pub mod Classes
 pub mod Phases
 pub mod SomeMark
+mod Alike

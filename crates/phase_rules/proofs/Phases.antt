@@ -34,7 +34,7 @@ use Rattle.phase_rules.proofs.Classes.{times_product}
 
 -- ---- all members that reverse a present h shift its phase alike
 
-product_t : (f g : Operator) → (product UNIT f g).t ≡ modulo UNIT (f.w ·ᶜ g.t +ᶜ f.t)
+pub product_t : (f g : Operator) → (product UNIT f g).t ≡ modulo UNIT (f.w ·ᶜ g.t +ᶜ f.t)
 unfolding product
 product_t f g = refl
 

@@ -1,16 +1,16 @@
 -- The laws of rows.
-use Rattle.std.proofs.Common.{◌≡◌, ℕ, ◌+◌, ◌-◌, ◌≤◌, ◌^◌, ltb, unsigned_abs, ◌∷◌, [], ◌++◌, Bool, ◌&&◌, List, ℤ, ◌+ℤ◌, ◌*ℤ◌, neg_ℤ, T, w32, FitsSigned, ap, ◌∙◌, Decides, int_eq}
+use Rattle.std.proofs.Common.{◌≡◌, ℕ, ◌+◌, ◌-◌, ◌≤◌, ◌^◌, ltb, unsigned_abs, ◌∷◌, [], ◌++◌, Bool, ◌&&◌, List, ℤ, ◌+ℤ◌, ◌*ℤ◌, neg_ℤ, T, w32, FitsSigned, ap, ◌∙◌, Decides, int_eq, pos, refl}
 use Rattle.std.specs.Cmp.{signed_Decides}
 use Rattle.std.proofs.lemmas.Bool.Decides.{Decides-and}
-use Rattle.lattice_algebra.specs.Matrix.{Matrix, Column, entries, coordinates, sum_of_products, ◌·◌, ◌·ᶜ◌, ◌+ᶜ◌, times, identity}
-use Rattle.lattice_algebra.proofs.Ring.{Expr, var, ◌⊕◌, ◌⊗◌, neg, value, both, ring}
+use Rattle.lattice_algebra.specs.Matrix.{Matrix, Column, neg_column, entries, coordinates, sum_of_products, ◌·◌, ◌·ᶜ◌, ◌+ᶜ◌, times, identity}
+use Rattle.lattice_algebra.proofs.Ring.{Expr, var, con, ◌⊕◌, ◌⊗◌, neg, value, both, ring}
 use Rattle.lattice_algebra.proofs.Machine.{back, read, kept}
-use Rattle.lattice_algebra.proofs.MatrixRing.{SymMatrix, SymColumn, matrix_at, column_at, ◌·ˢ◌, ◌·ˢᶜ◌, ◌+ˢᶜ◌, sym_times, sym_identity, agree}
+use Rattle.lattice_algebra.proofs.MatrixRing.{sym_neg, SymMatrix, SymColumn, matrix_at, column_at, ◌·ˢ◌, ◌·ˢᶜ◌, ◌+ˢᶜ◌, sym_times, sym_identity, agree}
 use Rattle.lattice_algebra.specs.Operator.{AreWithin, HasEntriesWithin, AreParts}
 use Rattle.exact_ops.specs.declared.TheConstants.{UNIT}
 use Rattle.exact_ops.proofs.Narrow.{AreWithin-parts}
 use Rattle.phase_rules.specs.declared.TheConstants.{MAX_INDEX}
-use Rattle.phase_rules.specs.Rows.{Row, row_of, ◌·ʳ◌, ◌·ʳᶜ◌, neg_row, row_eq}
+use Rattle.phase_rules.specs.Rows.{Row, origin_row, row_of, ◌·ʳ◌, ◌·ʳᶜ◌, neg_row, row_eq}
 
 -- ---- equations between rows, by `Ring`
 
@@ -88,6 +88,18 @@ unfolding ◌·ʳᶜ◌ times
 pub neg_row-·ʳᶜ : (r : Row) (c : Column) → neg_row r ·ʳᶜ c ≡ neg_ℤ (r ·ʳᶜ c)
 unfolding ◌·ʳᶜ◌ neg_row
 neg_row-·ʳᶜ r c = ring (numbers r ++ coordinates c) (sym_neg_row (row_at 0) ·ˢʳᶜ column_at 3) (neg (row_at 0 ·ˢʳᶜ column_at 3)) tt
+
+pub ·ʳᶜ-neg_column : (r : Row) (c : Column) → r ·ʳᶜ neg_column c ≡ neg_ℤ (r ·ʳᶜ c)
+unfolding ◌·ʳᶜ◌ neg_column
+·ʳᶜ-neg_column r c = ring (numbers r ++ coordinates c) (row_at 0 ·ˢʳᶜ sym_neg (column_at 3)) (neg (row_at 0 ·ˢʳᶜ column_at 3)) tt
+
+pub origin_row-·ʳᶜ : (c : Column) → origin_row ·ʳᶜ c ≡ pos 0
+unfolding ◌·ʳᶜ◌
+origin_row-·ʳᶜ c = let o = con (pos 0) in ring (coordinates c) (record { h = o; k = o; l = o } ·ˢʳᶜ column_at 0) o tt
+
+pub neg_row-origin_row : neg_row origin_row ≡ origin_row
+unfolding neg_row
+neg_row-origin_row = refl
 
 -- ---- what the machine computes
 

@@ -9,6 +9,9 @@ pub record Row : Type 0 where
   pub k : ℤ
   pub l : ℤ
 
+abbrev pub origin_row : Row
+origin_row = record { h = pos 0; k = pos 0; l = pos 0 }
+
 -- the row that a list has
 abbrev pub row_of : List ℤ → Row
 row_of xs = record { h = slice_index_or xs 0 (pos 0); k = slice_index_or xs 1 (pos 0); l = slice_index_or xs 2 (pos 0) }
