@@ -1,11 +1,11 @@
 -- Equivalent reflections are alike: absent together, of one class, fixed by as many members. The index 0 0 0.
-use Rattle.std.proofs.Common.{◌≡◌, ◌≢◌, ℕ, ◌+◌, ◌*◌, ◌<◌, ◌≤◌, Bool, cond, List, ◌∷◌, [], length, ℤ, pos, negsuc, ◌+ℤ◌, ◌*ℤ◌, neg_ℤ, ap, ap₂, sym, ◌∙◌, subst, refl, arith, inl, inr, Contains, count_by}
+use Rattle.std.proofs.Common.{◌≡◌, ℕ, ◌+◌, ◌*◌, ◌<◌, Bool, cond, List, ◌∷◌, [], length, ℤ, pos, negsuc, ◌+ℤ◌, ◌*ℤ◌, neg_ℤ, ap, ap₂, sym, ◌∙◌, subst, refl, arith, inl, inr, Contains, count_by}
 use Rattle.std.specs.Int.{int_rem_euclid, int_div_euclid}
 use Rattle.std.proofs.lemmas.Int.{ints}
 use Rattle.std.proofs.lemmas.Bool.Decides.{same_from_decides}
 use Rattle.finite_groups.proofs.Members as lists
-use Rattle.lattice_algebra.specs.Matrix.{◌·ᶜ◌, ◌+ᶜ◌, neg_column, identity, origin}
-use Rattle.lattice_algebra.specs.Operator.{Operator, product, inverse, modulo, identity_operator}
+use Rattle.lattice_algebra.specs.Matrix.{◌·ᶜ◌, ◌+ᶜ◌, neg_column}
+use Rattle.lattice_algebra.specs.Operator.{Operator, product, inverse, identity_operator}
 use Rattle.lattice_algebra.proofs.Remainders.{quotient_is, rem_of_times, rem_part, rem_same, modulo_is}
 use Rattle.lattice_algebra.proofs.Ring.{var, ◌⊕◌, ◌⊗◌, neg, con, known, ring_from}
 use Rattle.exact_ops.specs.declared.TheConstants.{UNIT}

@@ -3,3 +3,4 @@ pub mod Classes
 pub mod Phases
 pub mod SomeMark
 mod Alike
+mod Examples
