@@ -1,0 +1,4 @@
+pub mod Rows
+pub mod Equivalent
+pub mod Marks
+pub mod Tallies

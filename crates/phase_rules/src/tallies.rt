@@ -1,0 +1,141 @@
+ghost use Rattle.std.specs.Prelude.{◌≡◌, ◌<◌, ◌↔◌, ◌++◌, ◌∷◌, [], pos, List, length, slice_index_or, IsTrue};
+ghost use Rattle.std.specs.Int.{int_rem_euclid};
+ghost use Rattle.lattice_algebra.specs.Operator.{Operator};
+ghost use Rattle.group_closure.specs.declared.TheConstants.{MAX_OPERATORS};
+ghost use Rattle.phase_rules.specs.Rows.{Row, row_of, ◌·ʳ◌, neg_row};
+ghost use Rattle.phase_rules.specs.Equivalent.{IsClass};
+ghost use Rattle.phase_rules.specs.Marks.{phase_shift, IsMark};
+ghost use Rattle.phase_rules.specs.Tallies.{IsTurn, IsTally};
+
+use crate::index::Index;
+use crate::pairs::Pairs;
+use crate::parts::Mark;
+use exact_ops::{Op, UNIT};
+use group_closure::Group;
+
+/// What a rotation part does to an index.
+#[derive(Clone, Copy, PartialEq, Eq, Debug, Drop)]
+pub struct Turn {
+    /// Whether h W = h.
+    pub fixes: bool,
+    /// Whether h W = -h.
+    pub reverses: bool,
+}
+
+impl Turn {
+    /// What it does where it takes the index to this image.
+    pub fn of(index: &Index, image: &[i32; 3]) -> Turn
+        ensures { IsTurn index.now (row_of image.now) result }
+    {
+        Turn {
+            fixes: is_row(image, index.h, index.k, index.l),
+            reverses: is_row(image, -index.h, -index.k, -index.l),
+        }
+    }
+}
+
+fn is_row(a: &[i32; 3], h: i32, k: i32, l: i32) -> bool
+    ensures { IsTrue result ↔ ((slice_index_or a.now 0 (pos 0) ≡ h)
+        × (slice_index_or a.now 1 (pos 0) ≡ k) × (slice_index_or a.now 2 (pos 0) ≡ l)) }
+{
+    a[0] == h && a[1] == k && a[2] == l
+}
+
+/// What some members of a group do to one index.
+#[derive(Clone, Copy, PartialEq, Eq, Debug, Drop)]
+pub struct Tally {
+    /// How many have h W = h.
+    pub fixers: u16,
+    /// How many have h W = -h.
+    pub reversers: u16,
+    /// Whether one that has h W = h shifts the phase.
+    pub shifted: bool,
+    /// The phase shift of one that has h W = -h, where there is one.
+    pub phase: u8,
+}
+
+impl Tally {
+    /// That of no members.
+    pub fn none() -> Tally
+        ensures { (h : Row) → IsTally [] h result }
+    {
+        Tally {
+            fixers: 0,
+            reversers: 0,
+            shifted: false,
+            phase: 0,
+        }
+    }
+
+    /// One more member, whose rotation part does this to the index.
+    pub fn add(&mut self, index: &Index, op: &Op, turn: Turn)
+        requires turn { IsTurn index.now (index.now ·ʳ op.now.w) turn }
+        requires fixers { self.old.fixers < MAX_OPERATORS }
+        requires reversers { self.old.reversers < MAX_OPERATORS }
+        ensures { (members : List Operator) → IsTally members index.now self.old
+            → IsTally (members ++ op.now ∷ []) index.now self.new }
+    {
+        if turn.fixes {
+            self.fixers += 1;
+            if phase_of(index, op) != 0 {
+                self.shifted = true;
+            }
+        }
+        if turn.reverses {
+            self.reversers += 1;
+            self.phase = phase_of(index, op);
+        }
+    }
+
+    /// That of all members. A rotation part is asked where it differs from the one before.
+    pub fn of(group: &Group, index: &Index) -> Tally
+        ensures { IsTally group.now index.now result }
+    {
+        let order = group.len();
+        let mut w = group.op(0).w();
+        let mut turn = Turn::of(index, &index.times(&w));
+        let mut tally = Tally::none();
+        for i in 0..order {
+            let op = group.op(i as u8);
+            if op.w() != w {
+                w = op.w();
+                turn = Turn::of(index, &index.times(&w));
+            }
+            tally.add(index, &op, turn);
+        }
+        tally
+    }
+
+    /// The mark of the index, from the tally of all members.
+    pub fn mark(&self, pairs: Pairs) -> Mark
+        ensures { (members : List Operator) (h : Row) → IsTally members h self.now
+            → IsMark pairs members h result }
+    {
+        if self.shifted {
+            return Mark::Absent;
+        }
+        match pairs {
+            Pairs::Friedel if 0 < self.reversers => Mark::Phase(self.phase),
+            _ => Mark::Free,
+        }
+    }
+
+    /// How many indices are equivalent to the index, from the tally of all members: orbit and stabilizer.
+    pub fn class_size(&self, group: &Group, pairs: Pairs) -> u16
+        requires { (h : Row) × IsTally group.now h self.now }
+        ensures { (h : Row) (class : List Row) → IsTally group.now h self.now
+            → IsClass pairs group.now h class → result ≡ length class }
+    {
+        match pairs {
+            Pairs::Friedel => 2 * group.len() / (self.fixers + self.reversers),
+            Pairs::Apart => group.len() / self.fixers,
+        }
+    }
+}
+
+/// What the operator adds to the phase of the index, in parts of a cell.
+fn phase_of(index: &Index, op: &Op) -> u8
+    ensures { phase_shift index.now op.now ≡ pos result }
+{
+    index.along(&op.t()).rem_euclid(UNIT as i32) as u8
+}

@@ -1,0 +1,5 @@
+pub mod Boxes
+pub mod ClassLists
+pub mod Walks
+pub mod Tags
+pub mod Whole

@@ -1,0 +1,12 @@
+use Rattle.std.proofs.Common.{take}
+use Rattle.phase_rules.specs.Tallies.{IsTally}
+use Rattle.phase_rules.proofs.Phases.{IsAsked}
+use Rattle.reflections.proofs.Tags.{AreReached}
+use Rattle.reflections.proofs.tagging.tag_class.Given as goal
+
+abbrev pub invariant-loop-i : goal.invariant-loop-i
+invariant-loop-i l = record {
+  tally : IsTally (take l.i l.group) l.index l.tally;
+  asked : IsAsked l.group l.index l.w l.turn;
+  reached : AreReached l.pairs l.group l.size l.fn.tags l.tags l.index l.i l.w;
+}

@@ -1,0 +1,4 @@
+pub mod Digits
+pub mod Walks
+pub mod Firsts
+pub mod Whole
