@@ -23,10 +23,10 @@ use Rattle.triplet_text.proofs.Values.{digits_to, digits_from, value_joined}
 
 -- ---- numbers
 
-number_to : (run : List ℕ) → AreDigits run → number_of run ≡ Some (value_of run)
+pub number_to : (run : List ℕ) → AreDigits run → number_of run ≡ Some (value_of run)
 number_to run h = rw (lt-ltb 0 (length run) h.some) (digits_to run 0 h.digits ∙ ap (λ (m : ℕ). Some m) (omega arith))
 
-number_from : (run : List ℕ) (n : ℕ) → number_of run ≡ Some n → AreDigits run × (value_of run ≡ n)
+pub number_from : (run : List ℕ) (n : ℕ) → number_of run ≡ Some n → AreDigits run × (value_of run ≡ n)
 number_from run n e =
     let h = if_some (ltb 0 (length run)) (with_digits 0 run) n e in
     let ds = digits_from run 0 n h.1 in

@@ -15,6 +15,7 @@ mod Totals
 mod Cuts
 mod Rows
 pub mod CoordinateLaw
+pub mod IntegerLaw
 pub mod LowestTerms
 mod Printed
 mod AffineBytes

@@ -7,6 +7,7 @@ pub mod Sums
 pub mod Tokens
 pub mod Grammar
 pub mod Coordinates
+pub mod Integers
 pub mod Triplets
 pub mod Fractions
 pub mod Printing

@@ -12,6 +12,7 @@ mod affine;
 mod component;
 mod coordinate;
 mod fraction;
+mod integer;
 mod laws;
 mod lines;
 mod number;
@@ -25,6 +26,7 @@ mod triplet;
 pub use affine::print_affine;
 pub use coordinate::{COORDINATE_LENGTH, DECIMALS_LIMIT, read_coord};
 pub use fraction::print_frac;
+pub use integer::{read_integer, read_natural};
 pub use laws::{
     affine_map_has_one_text, affine_text_has_one_map, affine_text_has_values,
     affine_text_is_unique, coordinate_is_unique, equal_fractions_have_one_text,
