@@ -4,11 +4,13 @@
 //! group has one line of its type (`one_type_line`); a site and an orbit have one text (`one_site_text`).
 #![tactic(auto)]
 
+mod classes;
 mod laws;
 mod operators;
 mod sites;
 mod types;
 
+pub use classes::print_index;
 pub use laws::{one_site_text, one_type_line};
 pub use operators::print_ops;
 pub use sites::print_site;
