@@ -9,6 +9,7 @@ use Rattle.phase_rules.specs.Rows.{Row}
 use Rattle.reflections.specs.declared.line.ClassLine.{ClassLine}
 use Rattle.reflections.specs.Boxes.{Box}
 use Rattle.reflections.specs.ClassLists.{IsLine, IsClassList}
+use Rattle.reflections.specs.Walks.{Walk, IsWalk}
 use Rattle.triplet_text.specs.Bytes.{line_feed, space}
 use Rattle.page_print.specs.Lines.{AreLines}
 
@@ -41,3 +42,8 @@ pub record IsBoxText (pairs : Pairs) (members : List Operator) (box : Box) (text
   pub lines : List ClassLine
   pub is_list : IsClassList pairs members box lines
   pub are_lines : AreLines IsClassText lines text
+
+-- each line of the class list was taken from the walk
+pub record IsOver (members : List Operator) (old new : Walk) (taken : List ClassLine) : Type 0 where
+  pub walk : IsWalk members new taken
+  pub all : IsClassList old.pairs members old.size taken

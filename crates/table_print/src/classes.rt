@@ -1,16 +1,18 @@
-ghost use Rattle.std.specs.Prelude.{◌≡◌, ◌≤◌, ◌+◌, ◌++◌, length};
+ghost use Rattle.std.specs.Prelude.{◌≡◌, ◌≤◌, ◌+◌, ◌++◌, [], List, OnOk, length};
 ghost use Rattle.page_print.specs.declared.page.TheConstants.{PAGE_ROOM};
 ghost use Rattle.page_print.specs.Lines.{AddsSuch};
 ghost use Rattle.page_print.specs.Printing.{Prints};
-ghost use Rattle.table_print.specs.Classes.{mark_text, row_text, IsClassText, IsIndexText};
+ghost use Rattle.reflections.specs.declared.line.ClassLine.{ClassLine};
+ghost use Rattle.reflections.specs.Walks.{IsWalk};
+ghost use Rattle.table_print.specs.Classes.{mark_text, row_text, IsClassText, IsIndexText, IsBoxText, IsOver};
 ghost use Rattle.table_print.specs.declared.classes.TheConstants.{MARK_TEXT, ROW_TEXT, CLASS_LINE};
 
 use group_closure::Group;
 use itoa::Buffer;
-use page_print::Page;
+use page_print::{Page, make_room};
 use phase_rules::parts::Mark;
 use phase_rules::{Index, Pairs, class_size, fixers, mark};
-use reflections::ClassLine;
+use reflections::{ClassLine, ClassList};
 use sg_io::{Sink, SinkStop, put_all};
 
 /// The most bytes that a mark has: that of a phase, a word, a blank and a number of at most three digits.
@@ -40,6 +42,29 @@ pub fn print_index<K: Sink>(
     };
     let mut page = Page::new();
     push_class(&line, &mut page);
+    put_all(sink, page.bytes())
+}
+
+/// Writes the lines of the command `refl`: one for each class, in the order of the class list. The walk is one of the group from
+/// which no line was taken; it stays one, and after Ok each line was taken from it. It takes no memory. After an Err a prefix of
+/// the lines is written.
+pub fn print_classes<K: Sink>(
+    group: &Group,
+    list: &mut ClassList,
+    sink: &mut K,
+) -> Result<(), SinkStop>
+    requires { IsWalk group.now list.old [] }
+    ensures text { Prints K.seen (IsBoxText list.old.pairs group.now list.old.size)
+        sink.old sink.new result }
+    ensures walk { (taken : List ClassLine) × IsWalk group.now list.new taken }
+    ensures over { OnOk result ((taken : List ClassLine)
+        × IsOver group.now list.old list.new taken) }
+{
+    let mut page = Page::new();
+    while let Some(line) = list.next(group) {
+        push_class(&line, &mut page);
+        make_room(CLASS_LINE, &mut page, sink)?;
+    }
     put_all(sink, page.bytes())
 }
 

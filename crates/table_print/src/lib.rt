@@ -10,7 +10,7 @@ mod operators;
 mod sites;
 mod types;
 
-pub use classes::print_index;
+pub use classes::{print_classes, print_index};
 pub use laws::{one_site_text, one_type_line};
 pub use operators::print_ops;
 pub use sites::print_site;
