@@ -1,3 +1,5 @@
 pub mod SiteTexts
 pub mod SitePages
 pub mod TypeLines
+pub mod ClassTexts
+pub mod ClassPages

@@ -1,3 +1,4 @@
 pub mod Operators
 pub mod Types
 pub mod Sites
+pub mod Classes
