@@ -27,7 +27,7 @@ first_part R (x ∷ xs) (y ∷ ys) n s t into down =
     (λ e. absurd (itself z e (AllPairs-first R x z ys t' c)))
     (λ q. q)
     (lists.Contains-cases z x xs (down z w (lists.Contains-later z y ys c) (lists.Contains-later w x xs d) l))) in
-    (r.0, ap₂ (λ a b. a ∷ b) heads r.1)
+    (r.0, ap₂ (λ a b. a ∷ b) {v = xs ++ r.0} heads r.1)
 
 module _ (R : Region) (M : Lines R) (region : IsRegion R) where
   open R use {X, In, Before, Equivalent, place}
