@@ -17,6 +17,7 @@ use Rattle.orbit_map.specs.OrderedOrbit.{IsScaled}
 use Rattle.orbit_map.proofs.OrbitLists.{one_orbit, some_ordered_orbit}
 use Rattle.table_print.specs.Sites.{IsSiteText}
 use Rattle.table_print.proofs.SiteTexts as texts
+use Rattle.table_print.proofs.ClassTexts as classes
 use Rattle.table_print.specs.Operators.{IsOperatorLine}
 use Rattle.table_print.specs.Types.{IsTypeLine}
 use Rattle.page_print.proofs.LineTexts.{one_text, some_lines}
@@ -24,7 +25,7 @@ use Rattle.table_print.proofs.TypeLines.{one_operator_line, some_operator_line, 
 use Rattle.sg_cli.specs.declared.TheConstants.{MAX_INPUT}
 use Rattle.sg_cli.specs.declared.fault.Fault.TheVariants.{Words, TooLong, Unreadable, NotUnimodular, Unclosed}
 use Rattle.sg_cli.specs.declared.words.Name.{Name}
-use Rattle.sg_cli.specs.declared.words.Name.TheVariants.{Ops, Types, Site}
+use Rattle.sg_cli.specs.declared.words.Name.TheVariants.{Ops, Types, Site, Index, Refl}
 use Rattle.sg_cli.specs.Words.{Given, HasArguments, family, Asked}
 use Rattle.sg_cli.specs.Stages.{Gives, Refuses, HasOneAtMost, HasSome}
 use Rattle.sg_cli.specs.Answer.{Reading, command, no_command, Measuring, short, long, Listing, listed, unreadable, not_unimodular, Closing, closed, unclosed, Printing, IsSiteTextFor, Answering, IsAnswer}
@@ -125,11 +126,15 @@ one_answering : (name : Name) (given : Given (family name)) (words : List (List 
 one_answering Ops given words members h g = one_printing _ (one_text IsOperatorLine one_operator_line members)
 one_answering Types given words members h g = one_printing _ (one_text IsTypeLine one_type_line members)
 one_answering Site x words members h g = one_printing _ (one_site_text members x g (scaled_point words x h))
+one_answering Index i words members h g = one_printing _ (classes.one_index_text i.1 members g i.0)
+one_answering Refl b words members h g = one_printing _ (classes.one_box_text b.1 members g b.0)
 
 some_answering : (name : Name) (given : Given (family name)) (words : List (List ℕ)) (members : List Operator) → HasArguments (family name) given words → IsGroup members → HasSome (Answering name given members)
 some_answering Ops given words members h g = some_printing _ (some_lines IsOperatorLine members (some_operator_line members))
 some_answering Types given words members h g = some_printing _ (some_lines IsTypeLine members (λ f c. some_type_line members f g c))
 some_answering Site x words members h g = some_printing _ (some_site_text members x g (scaled_point words x h))
+some_answering Index i words members h g = some_printing _ (classes.some_index_text i.1 members i.0)
+some_answering Refl b words members h g = some_printing _ (classes.some_box_text b.1 members g b.0)
 
 -- ---- the answer
 

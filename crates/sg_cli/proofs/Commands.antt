@@ -1,15 +1,52 @@
 -- Words are one command at most, and whether they are one is decided.
-use Rattle.std.proofs.Common.{◌≡◌, ◌⊎◌, ℕ, List, [], ◌∷◌, inl, inr, refl, sym, ap, subst, ◌∙◌}
+use Rattle.std.proofs.Common.{◌≡◌, ◌⊎◌, ℕ, Bool, true, false, List, [], ◌∷◌, inl, inr, refl, sym, ap, subst, ◌∙◌}
+use Rattle.phase_rules.specs.declared.pairs.Pairs.{Pairs}
+use Rattle.phase_rules.specs.declared.pairs.Pairs.TheVariants.{Friedel, Apart}
 use Rattle.sg_cli.specs.declared.words.Name.{Name}
-use Rattle.sg_cli.specs.Words.{Family, Bare, OfPoint, Given, HasArguments, written, family, Asked, IsAsked, IsNoCommand}
+use Rattle.std.specs.Prelude.{codes}
+use Rattle.sg_cli.specs.Words.{Family, Bare, OfPoint, OfIndex, OfBox, AreThree, ArePointTexts, AreIndexTexts, AreBoxTexts, MayEndWith, are_apart, Given, HasArguments, written, family, Asked, IsAsked, IsNoCommand}
 use Rattle.sg_cli.proofs.Names.{one_name, name_or_none}
-use Rattle.sg_cli.proofs.PointWords.{one_point_of_words, point_or_none}
+use Rattle.sg_cli.proofs.ThreeWords.{three_long, one_of_three, three_or_none}
+use Rattle.sg_cli.proofs.FurtherWord.{one_may_end, may_end_or_not}
+use Rattle.sg_cli.proofs.PointWords.{point_of_texts, point_or_none}
+use Rattle.sg_cli.proofs.NumberWords.{one_index, index_or_none, one_box, box_or_none}
+
+-- ---- Friedel pairs
+
+abbrev anomalous : List ℕ
+anomalous = codes "anomalous"
+
+one_pairs : (a b : Pairs) → are_apart a ≡ are_apart b → a ≡ b
+one_pairs Friedel Friedel e = refl
+one_pairs Friedel Apart e = absurd cc
+one_pairs Apart Friedel e = absurd cc
+one_pairs Apart Apart e = refl
+
+some_pairs : (apart : Bool) → (pairs : Pairs) × (apart ≡ are_apart pairs)
+some_pairs false = (Friedel, refl)
+some_pairs true = (Apart, refl)
+
+same_pairs : {A : Type 0} (a b : A × Pairs) → ◌≡◌ {A = A × Bool} (a.0, are_apart a.1) (b.0, are_apart b.1) → a ≡ b
+same_pairs {A} a b e =
+    let first = ap (λ (g : A × Bool). g.0) e in
+    let second = one_pairs a.1 b.1 (ap (λ (g : A × Bool). g.1) e) in
+    λ i. (first i, second i)
+
+module _ {A : Type 0} (Say : List ℕ → List ℕ → List ℕ → A → Type 0) (words : List (List ℕ)) where
+  abbrev Ends : A → Bool → Type 0
+  Ends a apart = MayEndWith anomalous (λ three. AreThree Say three a) words apart
+
+  with_pairs : ((g : A × Bool) × Ends g.0 g.1) ⊎ ((g : A × Bool) → Ends g.0 g.1 → ⊥) → ((g : A × Pairs) × Ends g.0 (are_apart g.1)) ⊎ ((g : A × Pairs) → Ends g.0 (are_apart g.1) → ⊥)
+  with_pairs (inl h) = let p = some_pairs h.0.1 in inl ((h.0.0, p.0), subst (Ends h.0.0) p.1 h.1)
+  with_pairs (inr none) = inr (λ g h. none (g.0, are_apart g.1) h)
 
 -- ---- arguments, by their families
 
 one_given : (f : Family) (a b : Given f) (words : List (List ℕ)) → HasArguments f a words → HasArguments f b words → a ≡ b
 one_given Bare a b words p q = refl
-one_given OfPoint a b words p q = one_point_of_words words a b p q
+one_given OfPoint a b words p q = one_of_three ArePointTexts point_of_texts a b words p q
+one_given OfIndex a b words p q = same_pairs a b (one_may_end anomalous 3 (λ h three. AreThree AreIndexTexts three h) (three_long AreIndexTexts) (one_of_three AreIndexTexts one_index) (a.0, are_apart a.1) (b.0, are_apart b.1) words p q)
+one_given OfBox a b words p q = same_pairs a b (one_may_end anomalous 3 (λ box three. AreThree AreBoxTexts three box) (three_long AreBoxTexts) (one_of_three AreBoxTexts one_box) (a.0, are_apart a.1) (b.0, are_apart b.1) words p q)
 
 abbrev GivenOrNone : Family → List (List ℕ) → Type 0
 GivenOrNone f words = ((given : Given f) × HasArguments f given words) ⊎ ((given : Given f) → HasArguments f given words → ⊥)
@@ -17,7 +54,9 @@ GivenOrNone f words = ((given : Given f) × HasArguments f given words) ⊎ ((gi
 given_or_none : (f : Family) (words : List (List ℕ)) → GivenOrNone f words
 given_or_none Bare [] = inl (tt, refl)
 given_or_none Bare (word ∷ words) = inr (λ given e. absurd cc)
-given_or_none OfPoint words = point_or_none words
+given_or_none OfPoint words = three_or_none ArePointTexts point_or_none words
+given_or_none OfIndex words = with_pairs AreIndexTexts words (may_end_or_not anomalous 3 (λ h three. AreThree AreIndexTexts three h) (three_long AreIndexTexts) (three_or_none AreIndexTexts index_or_none) words)
+given_or_none OfBox words = with_pairs AreBoxTexts words (may_end_or_not anomalous 3 (λ box three. AreThree AreBoxTexts three box) (three_long AreBoxTexts) (three_or_none AreBoxTexts box_or_none) words)
 
 -- ---- commands
 

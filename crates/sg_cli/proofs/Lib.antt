@@ -1,4 +1,7 @@
+mod ThreeWords
+mod FurtherWord
 pub mod PointWords
+mod NumberWords
 pub mod Names
 pub mod Commands
 pub mod WordsLists

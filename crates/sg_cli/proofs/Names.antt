@@ -4,7 +4,7 @@ use Rattle.std.proofs.Common.{◌≡◌, ◌⊎◌, ℕ, Bool, true, false, List
 use Rattle.std.specs.Str.{bytes_eq}
 use Rattle.std.proofs.lemmas.Slice.Eq.{bytes_eq-Decides}
 use Rattle.sg_cli.specs.declared.words.Name.{Name}
-use Rattle.sg_cli.specs.declared.words.Name.TheVariants.{Ops, Types, Site}
+use Rattle.sg_cli.specs.declared.words.Name.TheVariants.{Ops, Types, Site, Index, Refl}
 use Rattle.sg_cli.specs.Words.{written}
 
 -- the first of the names that is written so
@@ -13,13 +13,15 @@ first_written [] word = None
 first_written (name ∷ names) word = if bytes_eq (written name) word then Some name else first_written names word
 
 all_names : List Name
-all_names = Ops ∷ Types ∷ Site ∷ []
+all_names = Ops ∷ Types ∷ Site ∷ Index ∷ Refl ∷ []
 
 found : (name : Name) → first_written all_names (written name) ≡ Some name
 unfolding first_written all_names
 found Ops = refl
 found Types = refl
 found Site = refl
+found Index = refl
+found Refl = refl
 
 pub one_name : (a b : Name) → written a ≡ written b → a ≡ b
 one_name a b e = let same : Some a ≡ Some b = sym (found a) ∙ ap (first_written all_names) e ∙ found b in cc

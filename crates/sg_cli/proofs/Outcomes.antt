@@ -21,7 +21,7 @@ use Rattle.group_closure.specs.GroupList.{IsGroupList}
 use Rattle.page_print.specs.Printing.{Prints}
 use Rattle.sg_cli.specs.declared.TheConstants.{MAX_INPUT}
 use Rattle.sg_cli.specs.declared.words.Name.{Name}
-use Rattle.sg_cli.specs.declared.words.Name.TheVariants.{Ops, Types, Site}
+use Rattle.sg_cli.specs.declared.words.Name.TheVariants.{Ops, Types, Site, Index, Refl}
 use Rattle.sg_cli.specs.declared.fault.Fault.{Fault}
 use Rattle.sg_cli.specs.declared.fault.Fault.TheVariants as fault
 use Rattle.sg_cli.specs.Words.{Asked, IsAsked, IsNoCommand, Given, family}
@@ -115,6 +115,8 @@ late_answering : (name : Name) (given : Given (family name)) (members : List Ope
 late_answering Ops given members stop h = absurd h
 late_answering Types given members stop h = absurd h
 late_answering Site given members stop h = absurd h
+late_answering Index given members stop h = absurd h
+late_answering Refl given members stop h = absurd h
 
 late_answer : (asked : Asked) (bytes : List ℕ) → RefusesLate (IsAnswerTo asked bytes)
 late_answer asked bytes = late_behind _ _ (late_listing (lines_of bytes)) λ list. late_behind _ _ (late_closing list) λ members. late_answering asked.name asked.given members

@@ -1,4 +1,4 @@
--- Three words are the coordinates of one point at most, and whether they are is decided.
+-- Three texts are the coordinates of one point at most, and whether they are is decided.
 use Rattle.std.proofs.Common.{◌≡◌, ◌⊎◌, ◌∷◌, [], List, ℕ, zero, suc, ◌*◌, ◌≤◌, ◌<◌, length, ℤ, pos, negsuc, neg_ℤ, unsigned_abs, ◌*ℤ◌, ◌≤ℤ◌, ◌<ℤ◌, inl, inr, ap, refl, sym, ◌∙◌, subst, arith}
 use Rattle.std.proofs.lemmas.Int.{ints}
 use lib.IntN.{*ℤ_comm}
@@ -13,7 +13,8 @@ use Rattle.triplet_text.specs.Coordinates.{IsCoordinate}
 use Rattle.triplet_text.proofs.CoordinateLaw.{one_coordinate}
 use Rattle.triplet_text.proofs.Decided.{CoordinateOrNone, coordinate_or_none}
 use Rattle.orbit_map.specs.OrderedOrbit.{IsScaled}
-use Rattle.sg_cli.specs.Words.{ArePointTexts, ArePointWords}
+use Rattle.sg_cli.specs.Words.{ArePointTexts, AreThree}
+use Rattle.sg_cli.proofs.ThreeWords.{SaidOrNone}
 
 -- ---- one point at most
 
@@ -33,25 +34,13 @@ one_point a b c p q k l m h i =
 one_pair : (text : List ℕ) (a b : ℤ × ℤ) → IsCoordinate text a.0 a.1 → IsCoordinate text b.0 b.1 → a ≡ b
 one_pair text a b p q = let e = one_coordinate text a.0 a.1 b.0 b.1 p q in λ i. (e.0 i, e.1 i)
 
-point_of_texts : (x y z : List ℕ) (p q : Point) → ArePointTexts x y z p → ArePointTexts x y z q → p ≡ q
+pub point_of_texts : (x y z : List ℕ) (p q : Point) → ArePointTexts x y z p → ArePointTexts x y z q → p ≡ q
 point_of_texts x y z p q h k =
     let a = one_pair x h.first k.first h.is_first k.is_first in
     let b = one_pair y h.second k.second h.is_second k.is_second in
     let c = one_pair z h.third k.third h.is_third k.is_third in
     one_point k.first k.second k.third p q k.is_first.positive k.is_second.positive k.is_third.positive
     (subst (λ l. HasCoordinates l p) (λ i. a i ∷ b i ∷ c i ∷ []) h.point) k.point
-
-same_texts : (x y z u v t : List ℕ) → x ∷ y ∷ z ∷ [] ≡ u ∷ v ∷ t ∷ [] → (x ≡ u) × (y ≡ v) × (z ≡ t)
-same_texts x y z u v t e = (cc, cc, cc)
-
--- what is said of three texts is said of the three that they are
-pub moved_texts : (x y z u v t : List ℕ) (p : Point) → x ∷ y ∷ z ∷ [] ≡ u ∷ v ∷ t ∷ [] → ArePointTexts x y z p → ArePointTexts u v t p
-moved_texts x y z u v t p e h =
-    let s = same_texts x y z u v t e in
-    subst (λ r. ArePointTexts u v r p) s.2 (subst (λ r. ArePointTexts u r z p) s.1 (subst (λ r. ArePointTexts r y z p) s.0 h))
-
-pub one_point_of_words : (words : List (List ℕ)) (p q : Point) → ArePointWords words p → ArePointWords words q → p ≡ q
-one_point_of_words words p q h k = point_of_texts k.x k.y k.z p q (moved_texts h.x h.y h.z k.x k.y k.z p (sym h.words_are ∙ k.words_are) h.coordinates) k.coordinates
 
 -- ---- whether they are coordinates
 
@@ -69,26 +58,14 @@ some_point a b c = (
   },
 )
 
-abbrev pub PointOrNone : List (List ℕ) → Type 0
-PointOrNone words = ((p : Point) × ArePointWords words p) ⊎ ((p : Point) → ArePointWords words p → ⊥)
-
-three_words : (x y z : List ℕ) → CoordinateOrNone x → CoordinateOrNone y → CoordinateOrNone z → PointOrNone (x ∷ y ∷ z ∷ [])
-three_words x y z (inl a) (inl b) (inl c) =
-    let p = some_point a.0 b.0 c.0 in
-    inl (p.0, record { x = x; y = y; z = z; words_are = λ _. x ∷ y ∷ z ∷ []; coordinates = record { first = a.0; second = b.0; third = c.0; is_first = a.1; is_second = b.1; is_third = c.1; point = p.1 } })
-three_words x y z (inr n) b c = inr (λ p h. let k = moved_texts h.x h.y h.z x y z p (sym h.words_are) h.coordinates in n k.first.0 k.first.1 k.is_first)
-three_words x y z (inl a) (inr n) c = inr (λ p h. let k = moved_texts h.x h.y h.z x y z p (sym h.words_are) h.coordinates in n k.second.0 k.second.1 k.is_second)
-three_words x y z (inl a) (inl b) (inr n) = inr (λ p h. let k = moved_texts h.x h.y h.z x y z p (sym h.words_are) h.coordinates in n k.third.0 k.third.1 k.is_third)
-
-pub no_three_words : (words : List (List ℕ)) → (length words ≡ 3 → ⊥) → (p : Point) → ArePointWords words p → ⊥
-no_three_words words n p h = n (ap length h.words_are)
-
-pub point_or_none : (words : List (List ℕ)) → PointOrNone words
-point_or_none [] = inr (no_three_words [] (λ e. omega arith))
-point_or_none (x ∷ []) = inr (no_three_words (x ∷ []) (λ e. omega arith))
-point_or_none (x ∷ y ∷ []) = inr (no_three_words (x ∷ y ∷ []) (λ e. omega arith))
-point_or_none (x ∷ y ∷ z ∷ []) = three_words x y z (coordinate_or_none x) (coordinate_or_none y) (coordinate_or_none z)
-point_or_none (x ∷ y ∷ z ∷ more ∷ rest) = inr (no_three_words (x ∷ y ∷ z ∷ more ∷ rest) (λ e. omega arith))
+pub point_or_none : (x y z : List ℕ) → SaidOrNone ArePointTexts x y z
+point_or_none x y z = by (coordinate_or_none x) (coordinate_or_none y) (coordinate_or_none z)
+  where
+    by : CoordinateOrNone x → CoordinateOrNone y → CoordinateOrNone z → SaidOrNone ArePointTexts x y z
+    by (inl a) (inl b) (inl c) = let p = some_point a.0 b.0 c.0 in inl (p.0, record { first = a.0; second = b.0; third = c.0; is_first = a.1; is_second = b.1; is_third = c.1; point = p.1 })
+    by (inr n) b c = inr (λ p h. n h.first.0 h.first.1 h.is_first)
+    by (inl a) (inr n) c = inr (λ p h. n h.second.0 h.second.1 h.is_second)
+    by (inl a) (inl b) (inr n) = inr (λ p h. n h.third.0 h.third.1 h.is_third)
 
 -- ---- such a point is one over a positive multiple of UNIT
 
@@ -101,9 +78,9 @@ whole_product (pos (suc a)) (negsuc b) w p q r = absurd (omega (arith, ints))
 whole_product (pos (suc a)) (pos (suc b)) (pos zero) p q r = absurd (omega (arith, ints))
 whole_product (pos (suc a)) (pos (suc b)) (negsuc c) p q r = absurd (omega (arith, ints))
 
-pub scaled_point : (words : List (List ℕ)) (p : Point) → ArePointWords words p → IsScaled p
+pub scaled_point : (words : List (List ℕ)) (p : Point) → AreThree ArePointTexts words p → IsScaled p
 scaled_point words p h =
-    let t = h.coordinates in
+    let t = h.say in
     let k = whole_product t.first.1 t.second.1 t.third.1 t.is_first.positive t.is_second.positive t.is_third.positive in
     (record { n = p.n; d = k.0; some = k.1 }, λ i. record { n = p.n; d = (t.point.denominator ∙ ap (λ d. pos UNIT *ℤ d) k.2) i })
 

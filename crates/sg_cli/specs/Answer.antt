@@ -11,13 +11,14 @@ use Rattle.orbit_map.specs.OrderedOrbit.{IsOrderedOrbit}
 use Rattle.sg_cli.specs.declared.TheConstants.{MAX_INPUT}
 use Rattle.sg_cli.specs.declared.fault.Fault.TheVariants.{Words, TooLong, Unreadable, NotUnimodular, Unclosed}
 use Rattle.sg_cli.specs.declared.words.Name.{Name}
-use Rattle.sg_cli.specs.declared.words.Name.TheVariants.{Ops, Types, Site}
+use Rattle.sg_cli.specs.declared.words.Name.TheVariants.{Ops, Types, Site, Index, Refl}
 use Rattle.sg_cli.specs.Words.{Asked, Given, family, IsAsked, IsNoCommand}
 use Rattle.sg_cli.specs.Fault.{status_of}
 use Rattle.sg_cli.specs.Stages.{Outcome, Gives, Refuses, Stage, ◌>>=◌}
 use Rattle.table_print.specs.Operators.{AreOperatorLines}
 use Rattle.table_print.specs.Types.{AreTypeLines}
 use Rattle.table_print.specs.Sites.{IsSiteText}
+use Rattle.table_print.specs.Classes.{IsIndexText, IsBoxText}
 
 -- ---- the stages
 
@@ -62,6 +63,8 @@ abbrev pub Answering : (name : Name) → Given (family name) → List Operator �
 Answering Ops given members = Printing (AreOperatorLines members)
 Answering Types given members = Printing (AreTypeLines members)
 Answering Site x members = Printing (IsSiteTextFor members x)
+Answering Index g members = Printing (IsIndexText g.1 members g.0)
+Answering Refl g members = Printing (IsBoxText g.1 members g.0)
 
 abbrev pub AnswerOver : List Operator → Asked → Stage (List ℕ)
 AnswerOver members asked = Answering asked.name asked.given members

@@ -1,16 +1,24 @@
 -- The words of the command line, and the commands that they are.
-use Rattle.std.specs.Prelude.{◌≡◌, List, [], ◌∷◌, ℕ, ℤ, map, codes}
+use Rattle.std.specs.Prelude.{◌≡◌, ◌++◌, if◌then◌else◌, Bool, true, false, List, [], ◌∷◌, ℕ, ℤ, map, codes}
 use Rattle.std.specs.String.{string_bytes}
 use Rattle.std.specs.Global.{Global}
 use Rattle.std.specs.declared.string.String.{String}
 use Rattle.lattice_algebra.specs.Point.{Point}
 use Rattle.exact_ops.specs.Points.{HasCoordinates}
 use Rattle.exact_ops.specs.Numbers.{point_in}
+use Rattle.lattice_algebra.specs.Operator.{AreWithin}
+use Rattle.phase_rules.specs.declared.TheConstants.{MAX_INDEX}
+use Rattle.phase_rules.specs.declared.pairs.Pairs.{Pairs}
+use Rattle.phase_rules.specs.declared.pairs.Pairs.TheVariants.{Friedel, Apart}
+use Rattle.phase_rules.specs.Rows.{Row}
+use Rattle.reflections.specs.Boxes.{Box, IsBoxInRange}
 use Rattle.triplet_text.specs.Coordinates.{IsCoordinate}
+use Rattle.triplet_text.specs.Integers.{IsNatural, IsInteger}
+use Rattle.sg_cli.specs.declared.TheConstants.{NUMBER_DIGITS}
 use Rattle.sg_cli.specs.declared.words.Command.{Command}
 use Rattle.sg_cli.specs.declared.words.Command.TheVariants as command
 use Rattle.sg_cli.specs.declared.words.Name.{Name}
-use Rattle.sg_cli.specs.declared.words.Name.TheVariants.{Ops, Types, Site}
+use Rattle.sg_cli.specs.declared.words.Name.TheVariants.{Ops, Types, Site, Index, Refl}
 
 -- each word as its bytes
 abbrev pub texts : List (String Global) → List (List ℕ)
@@ -32,28 +40,63 @@ pub record ArePointTexts (x y z : List ℕ) (p : Point) : Type 0 where
   pub is_third : IsCoordinate z third.0 third.1
   pub point : HasCoordinates (first ∷ second ∷ third ∷ []) p
 
--- three words, which are the coordinates of p
-pub record ArePointWords (words : List (List ℕ)) (p : Point) : Type 0 where
+-- the texts are three whole numbers, and h is the index that has them
+pub record AreIndexTexts (x y z : List ℕ) (h : Row) : Type 0 where
+  pub first : IsInteger NUMBER_DIGITS x h.h
+  pub second : IsInteger NUMBER_DIGITS y h.k
+  pub third : IsInteger NUMBER_DIGITS z h.l
+  pub in_range : AreWithin MAX_INDEX h.h h.k h.l
+
+-- the texts are three whole numbers without a sign, and b is the box of indices that has them
+pub record AreBoxTexts (x y z : List ℕ) (b : Box) : Type 0 where
+  pub first : IsNatural NUMBER_DIGITS x b.h
+  pub second : IsNatural NUMBER_DIGITS y b.k
+  pub third : IsNatural NUMBER_DIGITS z b.l
+  pub in_range : IsBoxInRange b
+
+-- three words, whose texts say this
+pub record AreThree {A : Type 0} (Say : List ℕ → List ℕ → List ℕ → A → Type 0) (words : List (List ℕ)) (a : A) : Type 0 where
   pub x : List ℕ
   pub y : List ℕ
   pub z : List ℕ
   pub words_are : words ≡ x ∷ y ∷ z ∷ []
-  pub coordinates : ArePointTexts x y z p
+  pub say : Say x y z a
+
+-- these arguments, and behind them this further word, or none
+pub record MayEndWith (word : List ℕ) (AreArguments : List (List ℕ) → Type 0) (words : List (List ℕ)) (further : Bool) : Type 0 where
+  pub arguments : List (List ℕ)
+  pub are : AreArguments arguments
+  pub words_are : words ≡ arguments ++ (if further then word ∷ [] else [])
+
+-- whether Friedel pairs are apart
+abbrev pub are_apart : Pairs → Bool
+are_apart Friedel = false
+are_apart Apart = true
+
+-- three words, and behind them the word that takes Friedel pairs apart, or none
+abbrev pub three_with : List ℕ → List ℕ → List ℕ → Bool → List (List ℕ)
+three_with x y z apart = (x ∷ y ∷ z ∷ []) ++ (if apart then codes "anomalous" ∷ [] else [])
 
 -- the families of arguments
 pub data Family : Type 0 where
   Bare : Family
   OfPoint : Family
+  OfIndex : Family
+  OfBox : Family
 
 -- what the arguments of a family give
 abbrev pub Given : Family → Type 0
 Given Bare = Unit {0}
 Given OfPoint = Point
+Given OfIndex = Row × Pairs
+Given OfBox = Box × Pairs
 
 -- the words are arguments that give this
 abbrev pub HasArguments : (f : Family) → Given f → List (List ℕ) → Type 0
 HasArguments Bare given words = AreNone words
-HasArguments OfPoint p words = ArePointWords words p
+HasArguments OfPoint p words = AreThree ArePointTexts words p
+HasArguments OfIndex g words = MayEndWith (codes "anomalous") (λ three. AreThree AreIndexTexts three g.0) words (are_apart g.1)
+HasArguments OfBox g words = MayEndWith (codes "anomalous") (λ three. AreThree AreBoxTexts three g.0) words (are_apart g.1)
 
 -- ---- commands
 
@@ -62,12 +105,16 @@ abbrev pub written : Name → List ℕ
 written Ops = codes "ops"
 written Types = codes "types"
 written Site = codes "site"
+written Index = codes "index"
+written Refl = codes "refl"
 
 -- which arguments follow it
 abbrev pub family : Name → Family
 family Ops = Bare
 family Types = Bare
 family Site = OfPoint
+family Index = OfIndex
+family Refl = OfBox
 
 -- a command as contracts see it: its name, and what its arguments give
 pub record Asked : Type 0 where
@@ -78,6 +125,8 @@ abbrev pub seen : Command → Asked
 seen command.Ops = record { name = Ops; given = tt }
 seen command.Types = record { name = Types; given = tt }
 seen (command.Site p) = record { name = Site; given = point_in p }
+seen (command.Index h pairs) = record { name = Index; given = (h, pairs) }
+seen (command.Refl box pairs) = record { name = Refl; given = (box, pairs) }
 
 -- the words are this name and arguments that give this
 pub record IsAsked (words : List (List ℕ)) (asked : Asked) : Type 0 where

@@ -6,6 +6,7 @@ ghost use Rattle.sg_io.specs.Count.{Rose};
 ghost use Rattle.sg_cli.specs.declared.fault.Fault.{Fault};
 ghost use Rattle.sg_cli.specs.Answer.{IsAnswerTo, AnswerOver, Printing, IsSiteTextFor};
 ghost use Rattle.sg_cli.specs.Fault.{status_of, text_of};
+ghost use Rattle.table_print.specs.Classes.{IsIndexText, IsBoxText};
 ghost use Rattle.sg_cli.specs.Run.{IsDecided, IsRefusal, IsReadToEnd, before_writing, HasStatus, IfPrinted, IfRefused, IsTold, Completes};
 ghost use Rattle.sg_cli.specs.Steps.{Answers, Counted, Serves};
 ghost use Rattle.sg_cli.specs.Words.{IsNoCommand, seen, texts};
@@ -16,10 +17,12 @@ use crate::words::{Command, read_words};
 use exact_ops::Point;
 use group_closure::Group;
 use orbit_map::orbit;
+use phase_rules::{Index, Pairs};
 use sg_io::{Sink, Source, put_all, read_all};
 use site_symmetry::site;
 use std::alloc::Global;
-use table_print::{print_ops, print_site, print_types};
+use reflections::{BoxSize, ClassList};
+use table_print::{print_classes, print_index, print_ops, print_site, print_types};
 use triplet_text::read_lines;
 
 /// Prints the answer to the command, where there is one. All memory is taken before the first byte is written.
@@ -52,6 +55,8 @@ fn print_text<K: Sink>(
         Command::Ops => Ok(print_ops(group, out)?),
         Command::Types => Ok(print_types(group, out)?),
         Command::Site(point) => answer_site(alloc, group, &point, out),
+        Command::Index(index, pairs) => answer_index(group, &index, pairs, out),
+        Command::Refl(size, pairs) => answer_refl(alloc, group, &size, pairs, out),
     }
 }
 
@@ -67,6 +72,33 @@ fn answer_site<K: Sink>(
     let site = site(alloc, group, point)?;
     let orbit = orbit(alloc, group, point)?;
     Ok(print_site(&site, &orbit, out)?)
+}
+
+fn answer_index<K: Sink>(
+    group: &Group,
+    index: &Index,
+    pairs: Pairs,
+    out: &mut K,
+) -> Result<(), Fault>
+    ensures answers { Answers K.seen (Printing (IsIndexText pairs group.now index.now)) out.old out.new result }
+    ensures counted { Counted K.seen out.old out.new result }
+{
+    Ok(print_index(group, index, pairs, out)?)
+}
+
+/// Prints the classes of a box. All memory is taken before the first byte is written.
+fn answer_refl<K: Sink>(
+    alloc: Global,
+    group: &Group,
+    size: &BoxSize,
+    pairs: Pairs,
+    out: &mut K,
+) -> Result<(), Fault>
+    ensures answers { Answers K.seen (Printing (IsBoxText pairs group.now size.now)) out.old out.new result }
+    ensures counted { Counted K.seen out.old out.new result }
+{
+    let mut list = ClassList::begin(alloc, group, size, pairs)?;
+    Ok(print_classes(group, &mut list, out)?)
 }
 
 /// Reads the words and the source, and prints the answer.

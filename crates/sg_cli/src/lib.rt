@@ -17,5 +17,8 @@ pub use fault::Fault;
 pub use laws::{answer_is_unique, some_answer};
 pub use words::{Command, read_words};
 
+/// The most digits that a whole number among the words has.
+pub const NUMBER_DIGITS: usize = 9;
+
 /// The greatest number of bytes that an input may have.
 pub const MAX_INPUT: u32 = 1_048_576;

@@ -1,5 +1,7 @@
 use Rattle.std.proofs.Common.{sym, ◌∙◌, ◌∷◌, []}
-use Rattle.sg_cli.proofs.PointWords.{if_none, moved_texts}
+use Rattle.sg_cli.specs.Words.{ArePointTexts}
+use Rattle.sg_cli.proofs.PointWords.{if_none}
+use Rattle.sg_cli.proofs.ThreeWords.{moved_texts}
 use Rattle.sg_cli.proofs.WordsLists.{three_texts}
 use Rattle.sg_cli.proofs.words.read_point.Goals as goal
 
@@ -9,4 +11,4 @@ returns-clause-none c =
     let x = c.as_bytes.ensures.value in
     let y = c.as_bytes-2.ensures.value in
     let z = c.as_bytes-3.ensures.value in
-    if_none c.point_of.result (λ none p h. none p (moved_texts h.x h.y h.z _ _ _ p (sym h.words_are ∙ three ∙ λ i. sym x i ∷ sym y i ∷ sym z i ∷ []) h.coordinates)) c.point_of.ensures.none
+    if_none c.point_of.result (λ none p h. none p (moved_texts ArePointTexts h.x h.y h.z _ _ _ p (sym h.words_are ∙ three ∙ λ i. sym x i ∷ sym y i ∷ sym z i ∷ []) h.say)) c.point_of.ensures.none
