@@ -7,6 +7,7 @@ ghost use Rattle.group_closure.specs.GroupList.{IsGroupList, IsGroup};
 
 use crate::MAX_OPERATORS;
 use crate::closing::{collect, generate};
+use crate::halving::place_in_order;
 use crate::order::sort_after_first;
 use exact_ops::{Op, OpList, compose, inverse};
 use std::alloc::Global;
@@ -89,12 +90,7 @@ impl Group {
         // Each member has one place.
         ensures only { (i : ℕ) → slice_get self.now i ≡ Some op.now → result ≡ Some i }
     {
-        for (i, member) in self.members.iter().enumerate() {
-            if member == op {
-                return Some(i as u8);
-            }
-        }
-        None
+        place_in_order(&self.members, op)
     }
 
     /// The place of the product: the member at i after the member at j, its translation taken modulo the cell.

@@ -11,6 +11,7 @@
 
 mod closing;
 mod group;
+mod halving;
 mod laws;
 mod order;
 

@@ -15,7 +15,7 @@ pub fn sort_after_first(ops: &mut [Op])
 }
 
 /// The matrices row by row, descending, then the translations, ascending.
-fn compare(a: &Op, b: &Op) -> Ordering
+pub fn compare(a: &Op, b: &Op) -> Ordering
     ensures { result ≡ operator_cmp a.now b.now }
 {
     b.w().cmp(&a.w()).then(a.t().cmp(&b.t()))
