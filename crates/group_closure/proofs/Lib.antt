@@ -3,5 +3,7 @@ pub mod Ordered
 pub mod Lists
 mod Growing
 mod InOrder
+mod Origins
+mod Tables
 pub mod Places
 pub mod Existence

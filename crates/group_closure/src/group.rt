@@ -6,10 +6,11 @@ ghost use Rattle.group_closure.specs.Words.{Closes, IsUnclosed};
 ghost use Rattle.group_closure.specs.GroupList.{IsGroupList, IsGroup};
 
 use crate::MAX_OPERATORS;
-use crate::closing::{collect, generate};
+use crate::closing::{Making, Places};
 use crate::halving::place_in_order;
-use crate::order::sort_after_first;
-use exact_ops::{Op, OpList, compose, inverse};
+use crate::order::list_in_order;
+use crate::table::fill;
+use exact_ops::{Op, OpList};
 use std::alloc::Global;
 use std::marker::Model;
 
@@ -27,6 +28,8 @@ pub enum CloseFault {
 #[derive(Drop)]
 pub struct Group {
     members: Vec<Op>,
+    products: Vec<Places>,
+    inverses: Vec<u8>,
 }
 
 impl Model for Group {
@@ -38,7 +41,9 @@ impl Model for Group {
 
     ghost view = { λ a. a.members.items };
 
-    ghost invariant = { λ a. IsGroup a.members.items };
+    ghost use Rattle.group_closure.specs.Table.{IsTable, IsTabled};
+
+    ghost invariant = { λ a. IsTabled a.members.items a.products.items a.inverses.items };
 }
 
 impl Group {
@@ -49,20 +54,28 @@ impl Group {
         ensures closes { OnOk result (Closes list.now) }
         ensures unclosed { IsErrOf result CloseFault.Unclosed → IsUnclosed list.now }
     {
-        let Ok(mut generators) = Vec::with_capacity(alloc, MAX_OPERATORS + 1) else {
+        let Ok(mut making) = Making::reserve(alloc) else {
             return Err(CloseFault::NoMemory);
         };
-        let Ok(mut members) = Vec::with_capacity(alloc, MAX_OPERATORS + 1) else {
+        let Ok(mut members) = Vec::with_capacity(alloc, MAX_OPERATORS) else {
             return Err(CloseFault::NoMemory);
         };
-        let Ok(()) = collect(list, &mut generators) else {
+        let Ok(mut products) = Vec::with_capacity(alloc, MAX_OPERATORS) else {
+            return Err(CloseFault::NoMemory);
+        };
+        let Ok(mut inverses) = Vec::with_capacity(alloc, MAX_OPERATORS) else {
+            return Err(CloseFault::NoMemory);
+        };
+        let Ok(()) = making.close(list) else {
             return Err(CloseFault::Unclosed);
         };
-        let Ok(()) = generate(&generators, &mut members) else {
-            return Err(CloseFault::Unclosed);
-        };
-        sort_after_first(&mut members);
-        Ok(Group { members })
+        list_in_order(&making.members, &mut members);
+        fill(&members, &making, &mut products, &mut inverses);
+        Ok(Group {
+            members,
+            products,
+            inverses,
+        })
     }
 
     /// How many members it has: 1 to `MAX_OPERATORS`.
@@ -101,9 +114,7 @@ impl Group {
         ensures value { (f g : Operator) → slice_get self.now i ≡ Some f
             → slice_get self.now j ≡ Some g → slice_get self.now result ≡ Some (product UNIT f g) }
     {
-        let members = &self.members;
-        let op = compose(&members[usize::from(i)], &members[usize::from(j)]).unwrap();
-        self.place_of(&op)
+        self.products[usize::from(i)][usize::from(j)]
     }
 
     /// The place of the inverse of the member at i.
@@ -113,17 +124,6 @@ impl Group {
         ensures value { (f g : Operator) → slice_get self.now i ≡ Some f
             → slice_get self.now result ≡ Some g → IsInverse UNIT f g }
     {
-        let members = &self.members;
-        let op = inverse(&members[usize::from(i)]).unwrap();
-        self.place_of(&op)
-    }
-
-    /// The place of a member.
-    fn place_of(&self, member: &Op) -> u8
-        requires { Contains self.now member.now }
-        ensures within { result < length self.now }
-        ensures place { slice_get self.now result ≡ Some member.now }
-    {
-        self.find(member).unwrap()
+        self.inverses[usize::from(i)]
     }
 }

@@ -14,6 +14,7 @@ mod group;
 mod halving;
 mod laws;
 mod order;
+mod table;
 
 pub use group::{CloseFault, Group};
 pub use laws::{

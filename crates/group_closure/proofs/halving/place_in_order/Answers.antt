@@ -1,4 +1,4 @@
-use Rattle.std.proofs.Common.{◌≡◌, ◌≢◌, ◌+◌, ◌/◌, ◌≤◌, ◌<◌, Some, length, slice_get, refl, sym, ap, arith, ◌∙◌}
+use Rattle.std.proofs.Common.{◌≡◌, ◌+◌, ◌/◌, ◌<◌, Some, length, slice_get, refl, sym, arith, ◌∙◌}
 use Rattle.std.proofs.lemmas.Bool.{true≢false}
 use Rattle.lattice_algebra.proofs.Equality.{operator_eq-is}
 use Rattle.group_closure.proofs.InOrder.{narrowed_all, narrowed_up, narrowed_down, narrowed_none}
