@@ -3,6 +3,7 @@ pub mod Ordered
 pub mod Lists
 mod Growing
 mod InOrder
+mod OneMatrix
 mod Origins
 mod Tables
 pub mod Places

@@ -194,13 +194,13 @@ module _ (members : List Operator) (group : IsGroup members) (f : Operator) (row
 -- ---- what the table says
 
 -- the code reads row n, which is i, at q, which is j
-pub product_read : (members : List Operator) (table : List (List ℕ)) (inverses : List ℕ) (i j n q : ℕ) (row : List ℕ) → IsTabled members table inverses → i < length members → n ≡ i → q ≡ j → row ≡ get_or table n row → (f g : Operator) → slice_get members i ≡ Some f → slice_get members j ≡ Some g → slice_get members (get_or row q 0) ≡ Some (product UNIT f g)
-product_read members table inverses i j n q row t l a b e f g p r =
+pub product_read : (members : List Operator) (table : List (List ℕ)) (inverses ends : List ℕ) (i j n q : ℕ) (row : List ℕ) → IsTabled members table inverses ends → i < length members → n ≡ i → q ≡ j → row ≡ get_or table n row → (f g : Operator) → slice_get members i ≡ Some f → slice_get members j ≡ Some g → slice_get members (get_or row q 0) ≡ Some (product UNIT f g)
+product_read members table inverses ends i j n q row t l a b e f g p r =
     let there : slice_get table i ≡ Some row = slice_get_read table (length table) i row (λ _. length table) (omega (arith, t.all.count)) (e ∙ ap (λ k. get_or table k row) a) in
     subst (λ k. slice_get members (get_or row k 0) ≡ Some (product UNIT f g)) (sym b) (t.all.rows i f row p there j g r)
 
-pub inverse_read : (members : List Operator) (table : List (List ℕ)) (inverses : List ℕ) (i n v : ℕ) → IsTabled members table inverses → i < length members → n ≡ i → v ≡ get_or inverses n v → v < length members
-inverse_read members table inverses i n v t l a e =
+pub inverse_read : (members : List Operator) (table : List (List ℕ)) (inverses ends : List ℕ) (i n v : ℕ) → IsTabled members table inverses ends → i < length members → n ≡ i → v ≡ get_or inverses n v → v < length members
+inverse_read members table inverses ends i n v t l a e =
     let f = some_at members i l in
     let r = t.all.inverse i f.0 l f.1 in
     omega (arith, e ∙ get_or_default inverses n v 0 (omega (arith, a, t.all.count_inverses)) ∙ ap (λ k. get_or inverses k 0) a, slice_get_within members (get_or inverses i 0) r.0 r.1)

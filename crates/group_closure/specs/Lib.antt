@@ -5,3 +5,4 @@ pub mod Steps
 pub mod Origins
 pub mod Making
 pub mod Table
+pub mod Runs

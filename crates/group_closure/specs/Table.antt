@@ -3,6 +3,7 @@ use Rattle.std.specs.Prelude.{◌≡◌, ◌<◌, ℕ, Some, List, length, slice
 use Rattle.lattice_algebra.specs.Operator.{Operator, product, IsInverse}
 use Rattle.exact_ops.specs.declared.TheConstants.{UNIT}
 use Rattle.group_closure.specs.GroupList.{IsGroup}
+use Rattle.group_closure.specs.Runs.{AreRunEnds}
 
 -- ranks has the places among members of the operators of made
 abbrev pub AreRanks : List Operator → List Operator → List ℕ → Type 0
@@ -19,7 +20,8 @@ pub record IsTable (members : List Operator) (table : List (List ℕ)) (inverses
   pub count_inverses : length inverses ≡ i
   pub inverse : (k : ℕ) (f : Operator) → k < i → slice_get members k ≡ Some f → (g : Operator) × (slice_get members (slice_index inverses k) ≡ Some g) × IsInverse UNIT f g
 
--- a group with its table
-pub record IsTabled (members : List Operator) (table : List (List ℕ)) (inverses : List ℕ) : Type 0 where
+-- a group with its table, and where its runs end
+pub record IsTabled (members : List Operator) (table : List (List ℕ)) (inverses ends : List ℕ) : Type 0 where
   pub group : IsGroup members
   pub all : IsTable members table inverses (length members)
+  pub runs : AreRunEnds members ends

@@ -1,14 +1,17 @@
-ghost use Rattle.std.specs.Prelude.{◌≡◌, ◌<◌, ◌↔◌, ℕ, Some, IsSome, IfSome, IfOk, OnOk, IsErrOf, length, slice_get};
+ghost use Rattle.std.specs.Prelude.{◌≡◌, ◌<◌, ◌≤◌, ◌↔◌, ℕ, Some, IsSome, IfSome, IfOk, OnOk, IsErrOf, length, negsuc, slice_get};
 ghost use Rattle.std.specs.List.{Contains};
+ghost use Rattle.lattice_algebra.specs.Matrix.{scaled};
 ghost use Rattle.lattice_algebra.specs.Operator.{Operator, product, IsInverse};
 ghost use Rattle.exact_ops.specs.declared.TheConstants.{UNIT};
 ghost use Rattle.group_closure.specs.Words.{Closes, IsUnclosed};
 ghost use Rattle.group_closure.specs.GroupList.{IsGroupList, IsGroup};
+ghost use Rattle.group_closure.specs.Runs.{IsRun, HasMatrix, IsFirstWith};
 
 use crate::MAX_OPERATORS;
 use crate::closing::{Making, Places};
 use crate::halving::place_in_order;
 use crate::order::list_in_order;
+use crate::runs::{first_with, opposite_of, run_ends};
 use crate::table::fill;
 use exact_ops::{Op, OpList};
 use std::alloc::Global;
@@ -30,6 +33,7 @@ pub struct Group {
     members: Vec<Op>,
     products: Vec<Places>,
     inverses: Vec<u8>,
+    ends: Places,
 }
 
 impl Model for Group {
@@ -43,7 +47,7 @@ impl Model for Group {
 
     ghost use Rattle.group_closure.specs.Table.{IsTable, IsTabled};
 
-    ghost invariant = { λ a. IsTabled a.members.items a.products.items a.inverses.items };
+    ghost invariant = { λ a. IsTabled a.members.items a.products.items a.inverses.items a.ends };
 }
 
 impl Group {
@@ -71,10 +75,12 @@ impl Group {
         };
         list_in_order(&making.members, &mut members);
         fill(&members, &making, &mut products, &mut inverses);
+        let ends = run_ends(&members);
         Ok(Group {
             members,
             products,
             inverses,
+            ends,
         })
     }
 
@@ -125,5 +131,29 @@ impl Group {
             → slice_get self.now result ≡ Some g → IsInverse UNIT f g }
     {
         self.inverses[usize::from(i)]
+    }
+
+    /// Where the run of the member at i ends: members with one matrix stand together, but for the identity, which is a run of
+    /// its own. So a walk from run to run begins at 0 and goes on at the end of each.
+    pub fn run_end(&self, i: u8) -> u8
+        requires { i < length self.now }
+        ensures beyond { i < result }
+        ensures within { result ≤ length self.now }
+        ensures first { i ≡ 0 → result ≡ 1 }
+        ensures run { 0 < i → IsRun self.now i result }
+    {
+        self.ends[usize::from(i)]
+    }
+
+    /// The first place of a member with the matrix -W, where W is the matrix of the member at i. None where there is none.
+    pub fn opposite_run(&self, i: u8) -> Option<u8>
+        requires { i < length self.now }
+        ensures some { (f : Operator) → slice_get self.now i ≡ Some f
+            → (IsSome result ↔ HasMatrix self.now (scaled (negsuc 0) f.w)) }
+        ensures first { (f : Operator) → slice_get self.now i ≡ Some f
+            → IfSome result (IsFirstWith self.now (scaled (negsuc 0) f.w)) }
+    {
+        let matrix = self.members[usize::from(i)].w();
+        first_with(&self.members, &opposite_of(&matrix))
     }
 }

@@ -14,6 +14,7 @@ mod group;
 mod halving;
 mod laws;
 mod order;
+mod runs;
 mod table;
 
 pub use group::{CloseFault, Group};

@@ -1,5 +1,6 @@
 use Rattle.std.proofs.Common.{length, sym, subst}
 use Rattle.group_closure.specs.GroupList.{IsGroup}
+use Rattle.group_closure.specs.Runs.{AreRunEnds}
 use Rattle.group_closure.specs.Table.{IsTable}
 use Rattle.group_closure.proofs.Lists.{group_of_sorted}
 use Rattle.group_closure.proofs.group.Group.close.Goals as goal
@@ -10,6 +11,12 @@ fill-requires-clause-group c =
     let made = c.in-Ok-close.ensures in
     subst IsGroup (sym c.deref-2.ensures.value) (group_of_sorted c.args.list.now _ _ _ _ made.generators made.ok.generated c.deref.ensures.value s.permutation s.first s.sorted).group
 
+pub run_ends-ends-requires : goal.run_ends-ends-requires
+run_ends-ends-requires c =
+    let s = c.list_in_order.ensures in
+    let made = c.in-Ok-close.ensures in
+    subst IsGroup (sym c.deref-3.ensures.value) (group_of_sorted c.args.list.now _ _ _ _ made.generators made.ok.generated c.deref.ensures.value s.permutation s.first s.sorted).group
+
 pub invariant_of-result : goal.invariant_of-result
 invariant_of-result c =
     let s = c.list_in_order.ensures in
@@ -17,6 +24,7 @@ invariant_of-result c =
     record {
       group = (group_of_sorted c.args.list.now _ _ _ _ made.generators made.ok.generated c.deref.ensures.value s.permutation s.first s.sorted).group;
       all = subst (λ v. IsTable v c.fill.new.table.items c.fill.new.inverses.items (length v)) c.deref-2.ensures.value c.fill.ensures;
+      runs = subst (λ v. AreRunEnds v c.run_ends-ends.result) c.deref-3.ensures.value c.run_ends-ends.ensures;
     }
 
 pub returns-clause-ok : goal.returns-clause-ok
