@@ -129,6 +129,42 @@ fn finds_products_and_inverses(rt: HostRuntime) -> Result<(), Fail> {
     Ok(())
 }
 
+fn run_end_at(group: &Group, i: u8) -> Option<u8> {
+    if u16::from(i) >= group.len() {
+        return None;
+    }
+    Some(group.run_end(i))
+}
+
+fn opposite_at(group: &Group, i: u8) -> Option<u8> {
+    if u16::from(i) >= group.len() {
+        return None;
+    }
+    group.opposite_run(i)
+}
+
+/// The identity, x+2y,-y,-z with three translations, and two translations alone. In P 1 21/c 1 each matrix has its opposite.
+#[test]
+fn runs_of_one_matrix(rt: HostRuntime) -> Result<(), Fail> {
+    let sheared = [1, 2, 0, 0, -1, 0, 0, 0, -1];
+    let input = [(sheared, [0, 0, 0]), (IDENTITY, [8, 0, 0])];
+    let group = Group::close(rt.alloc(), &list_of(rt.alloc(), &input)?)?;
+    for (i, want) in [(0, 1), (1, 4), (2, 4), (3, 4), (4, 6), (5, 6)] {
+        assert_eq!(rt; run_end_at(&group, i), Some(want), "{i}");
+        assert_eq!(rt; opposite_at(&group, i), None, "{i}");
+    }
+    let screw = ([-1, 0, 0, 0, 1, 0, 0, 0, -1], [0, 6, 6]);
+    let group = Group::close(
+        rt.alloc(),
+        &list_of(rt.alloc(), &[screw, (INVERSION, [0, 0, 0])])?,
+    )?;
+    for (i, want) in [(0, 3), (1, 2), (2, 1), (3, 0)] {
+        assert_eq!(rt; run_end_at(&group, i), Some(i + 1), "{i}");
+        assert_eq!(rt; opposite_at(&group, i), Some(want), "{i}");
+    }
+    Ok(())
+}
+
 /// In F m -3 m -y,x,z after z,x,y is -x,z,y, and z,x,y after -y,x,z is z,-y,x.
 #[test]
 fn multiplies_in_order(rt: HostRuntime) -> Result<(), Fail> {
