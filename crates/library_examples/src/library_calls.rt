@@ -3,6 +3,7 @@ ghost use Rattle.exact_ops.specs.Moves.{IsShiftInRange};
 
 use crate::groups::{CUBIC, HEXAGONAL, group_of, op_of};
 use exact_ops::{Move, Point, UNIT, inverse};
+use group_closure::Group;
 use orbit_map::multiplicity;
 use site_symmetry::order_at;
 use std::test::Fail;
