@@ -1,6 +1,5 @@
 -- Laws of Span, of group lists and of groups.
-use Rattle.std.proofs.Common.{◌≡◌, ℕ, ◌≤◌, ◌↔◌, List, [], ◌∷◌, length, drop, take, ◌++◌, sym, ap, ◌∙◌, subst, arith, inl, inr, All, Contains, IsPermutation, IsSorted, slice_get, get_or, le_trans, suc}
-use Rattle.std.proofs.lemmas.List.{take_at}
+use Rattle.std.proofs.Common.{◌≡◌, ◌≤◌, ◌↔◌, List, [], ◌∷◌, length, drop, sym, ap, ◌∙◌, subst, arith, inl, inr, All, Contains, IsPermutation, IsSorted, slice_get, get_or, le_trans, suc}
 use Rattle.std.proofs.lemmas.List.Elements.{All-contains, All-weaker, Contains-get_or}
 use Rattle.std.proofs.lemmas.List.Sorted.{Contains-permutation, IsPermutation-sym, length_permutation, All-permutation}
 use Rattle.std.proofs.lemmas.Map.Made.{IsDistinct-from_AllPairs, AllPairs-from_IsDistinct}
@@ -137,7 +136,6 @@ of_generated list generators made sorted g p m f s =
     record { listed = h; group = group_of_closing generators sorted (are_operators generators g.narrow) (closes_by generators sorted k.span l n) k; closes = closes_by list sorted h.span l n }
 
 -- the same of the lists that `close` lends to the functions that it calls
-pub group_of_sorted : (list collected lent made unsorted sorted : List Operator) (n : ℕ) → AreGenerators list collected → lent ≡ collected → IsGenerated lent made → unsorted ≡ made → length unsorted ≡ n → IsPermutation unsorted sorted → slice_get sorted 0 ≡ slice_get unsorted 0 → IsSorted operator_cmp (drop 1 sorted) → IsGroupOf list (take n (sorted ++ drop (length sorted) made))
-group_of_sorted list collected lent made unsorted sorted n g a p b l m f s =
-    subst (IsGroupOf list) (sym (take_at sorted (drop (length sorted) made) n (length_permutation unsorted sorted m ∙ l)))
-    (of_generated list lent made sorted (subst (AreGenerators list) (sym a) g) p (subst (λ v. IsPermutation v sorted) b m) (f ∙ ap (λ v. slice_get v 0) b) s)
+pub group_of_sorted : (list collected made lent sorted : List Operator) → AreGenerators list collected → IsGenerated collected made → lent ≡ made → IsPermutation lent sorted → slice_get sorted 0 ≡ slice_get lent 0 → IsSorted operator_cmp (drop 1 sorted) → IsGroupOf list sorted
+group_of_sorted list collected made lent sorted g p e m f s =
+    of_generated list collected made sorted g p (subst (λ v. IsPermutation v sorted) e m) (f ∙ ap (λ v. slice_get v 0) e) s

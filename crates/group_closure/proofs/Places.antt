@@ -31,7 +31,7 @@ read_at members lent f i k e p l q =
 pub contains_at : (members : List Operator) (f : Operator) (i : ℕ) → slice_get members i ≡ Some f → Contains members f
 contains_at members f i e = (i, slice_get_within members i f e, get_or_from_slice_get members i f f e)
 
-apart : (members : List Operator) (f : Operator) (i k : ℕ) → AreDistinct members → slice_get members i ≡ Some f → slice_get members k ≡ Some f → i < k → ⊥
+pub apart : (members : List Operator) (f : Operator) (i k : ℕ) → AreDistinct members → slice_get members i ≡ Some f → slice_get members k ≡ Some f → i < k → ⊥
 apart members f i k d p q l = d i k f l (slice_get_within members k f q) (get_or_from_slice_get members i f f p ∙ sym (get_or_from_slice_get members k f f q))
 
 -- and stands at one place alone
@@ -80,6 +80,12 @@ inverse_member members f p c =
 
 pub inverse_is : (members : List Operator) (f : Operator) → IsGroup members → Contains members f → IsInverse UNIT f (inverse UNIT f)
 inverse_is members f p c = inverse-IsInverse UNIT f (All-contains IsNarrow members f p.narrow c).is_operator.unimodular
+
+-- a member whose product is the identity is the inverse
+pub inverse_by_product : (members : List Operator) (f g : Operator) → IsGroup members → Contains members f → Contains members g → product UNIT f g ≡ identity_operator → IsInverse UNIT f g
+inverse_by_product members f g p c d e =
+    let at = λ (h : Operator) (m : Contains members h). (All-contains IsNarrow members h p.narrow m).is_operator in
+    subst (IsInverse UNIT f) (sym (basics.inverse_once cell_operators f g (at f c) (at g d) e)) (inverse_is members f p c)
 
 pub inverse_narrow : (members : List Operator) (f : Operator) → IsGroup members → Contains members f → HasEntriesWithin 2 (inverse UNIT f).w
 inverse_narrow members f p c = (All-contains IsNarrow members (inverse UNIT f) p.narrow (inverse_member members f p c)).within_two

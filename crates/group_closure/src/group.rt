@@ -1,14 +1,19 @@
-ghost use Rattle.std.specs.Prelude.{◌≡◌, ◌<◌, ◌↔◌, ℕ, Some, IsSome, IfSome, IfOk, OnOk, IsErrOf, length, slice_get};
+ghost use Rattle.std.specs.Prelude.{◌≡◌, ◌<◌, ◌≤◌, ◌↔◌, ℕ, Some, IsSome, IfSome, IfOk, OnOk, IsErrOf, length, negsuc, slice_get};
 ghost use Rattle.std.specs.List.{Contains};
+ghost use Rattle.lattice_algebra.specs.Matrix.{scaled};
 ghost use Rattle.lattice_algebra.specs.Operator.{Operator, product, IsInverse};
 ghost use Rattle.exact_ops.specs.declared.TheConstants.{UNIT};
 ghost use Rattle.group_closure.specs.Words.{Closes, IsUnclosed};
 ghost use Rattle.group_closure.specs.GroupList.{IsGroupList, IsGroup};
+ghost use Rattle.group_closure.specs.Runs.{IsRun, HasMatrix, IsFirstWith};
 
 use crate::MAX_OPERATORS;
-use crate::closing::{collect, generate};
-use crate::order::sort_after_first;
-use exact_ops::{Op, OpList, compose, inverse};
+use crate::closing::{Making, Places};
+use crate::halving::place_in_order;
+use crate::order::list_in_order;
+use crate::runs::{first_with, opposite_of, run_ends};
+use crate::table::fill;
+use exact_ops::{Op, OpList};
 use std::alloc::Global;
 use std::marker::Model;
 
@@ -26,6 +31,9 @@ pub enum CloseFault {
 #[derive(Drop)]
 pub struct Group {
     members: Vec<Op>,
+    products: Vec<Places>,
+    inverses: Vec<u8>,
+    ends: Places,
 }
 
 impl Model for Group {
@@ -37,7 +45,9 @@ impl Model for Group {
 
     ghost view = { λ a. a.members.items };
 
-    ghost invariant = { λ a. IsGroup a.members.items };
+    ghost use Rattle.group_closure.specs.Table.{IsTable, IsTabled};
+
+    ghost invariant = { λ a. IsTabled a.members.items a.products.items a.inverses.items a.ends };
 }
 
 impl Group {
@@ -48,20 +58,30 @@ impl Group {
         ensures closes { OnOk result (Closes list.now) }
         ensures unclosed { IsErrOf result CloseFault.Unclosed → IsUnclosed list.now }
     {
-        let Ok(mut generators) = Vec::with_capacity(alloc, MAX_OPERATORS + 1) else {
+        let Ok(mut making) = Making::reserve(alloc) else {
             return Err(CloseFault::NoMemory);
         };
-        let Ok(mut members) = Vec::with_capacity(alloc, MAX_OPERATORS + 1) else {
+        let Ok(mut members) = Vec::with_capacity(alloc, MAX_OPERATORS) else {
             return Err(CloseFault::NoMemory);
         };
-        let Ok(()) = collect(list, &mut generators) else {
+        let Ok(mut products) = Vec::with_capacity(alloc, MAX_OPERATORS) else {
+            return Err(CloseFault::NoMemory);
+        };
+        let Ok(mut inverses) = Vec::with_capacity(alloc, MAX_OPERATORS) else {
+            return Err(CloseFault::NoMemory);
+        };
+        let Ok(()) = making.close(list) else {
             return Err(CloseFault::Unclosed);
         };
-        let Ok(()) = generate(&generators, &mut members) else {
-            return Err(CloseFault::Unclosed);
-        };
-        sort_after_first(&mut members);
-        Ok(Group { members })
+        list_in_order(&making.members, &mut members);
+        fill(&members, &making, &mut products, &mut inverses);
+        let ends = run_ends(&members);
+        Ok(Group {
+            members,
+            products,
+            inverses,
+            ends,
+        })
     }
 
     /// How many members it has: 1 to `MAX_OPERATORS`.
@@ -89,12 +109,7 @@ impl Group {
         // Each member has one place.
         ensures only { (i : ℕ) → slice_get self.now i ≡ Some op.now → result ≡ Some i }
     {
-        for (i, member) in self.members.iter().enumerate() {
-            if member == op {
-                return Some(i as u8);
-            }
-        }
-        None
+        place_in_order(&self.members, op)
     }
 
     /// The place of the product: the member at i after the member at j, its translation taken modulo the cell.
@@ -105,9 +120,7 @@ impl Group {
         ensures value { (f g : Operator) → slice_get self.now i ≡ Some f
             → slice_get self.now j ≡ Some g → slice_get self.now result ≡ Some (product UNIT f g) }
     {
-        let members = &self.members;
-        let op = compose(&members[usize::from(i)], &members[usize::from(j)]).unwrap();
-        self.place_of(&op)
+        self.products[usize::from(i)][usize::from(j)]
     }
 
     /// The place of the inverse of the member at i.
@@ -117,17 +130,30 @@ impl Group {
         ensures value { (f g : Operator) → slice_get self.now i ≡ Some f
             → slice_get self.now result ≡ Some g → IsInverse UNIT f g }
     {
-        let members = &self.members;
-        let op = inverse(&members[usize::from(i)]).unwrap();
-        self.place_of(&op)
+        self.inverses[usize::from(i)]
     }
 
-    /// The place of a member.
-    fn place_of(&self, member: &Op) -> u8
-        requires { Contains self.now member.now }
-        ensures within { result < length self.now }
-        ensures place { slice_get self.now result ≡ Some member.now }
+    /// Where the run of the member at i ends: members with one matrix stand together, but for the identity, which is a run of
+    /// its own. So a walk from run to run begins at 0 and goes on at the end of each.
+    pub fn run_end(&self, i: u8) -> u8
+        requires { i < length self.now }
+        ensures beyond { i < result }
+        ensures within { result ≤ length self.now }
+        ensures first { i ≡ 0 → result ≡ 1 }
+        ensures run { 0 < i → IsRun self.now i result }
     {
-        self.find(member).unwrap()
+        self.ends[usize::from(i)]
+    }
+
+    /// The first place of a member with the matrix -W, where W is the matrix of the member at i. None where there is none.
+    pub fn opposite_run(&self, i: u8) -> Option<u8>
+        requires { i < length self.now }
+        ensures some { (f : Operator) → slice_get self.now i ≡ Some f
+            → (IsSome result ↔ HasMatrix self.now (scaled (negsuc 0) f.w)) }
+        ensures first { (f : Operator) → slice_get self.now i ≡ Some f
+            → IfSome result (IsFirstWith self.now (scaled (negsuc 0) f.w)) }
+    {
+        let matrix = self.members[usize::from(i)].w();
+        first_with(&self.members, &opposite_of(&matrix))
     }
 }

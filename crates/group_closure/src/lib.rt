@@ -6,13 +6,17 @@
 //! Proved: `Group::close` gives exactly these products, the identity first, then in order, each once, and refuses exactly where
 //! there are more than `MAX_OPERATORS` or one has an entry outside -2..=2. Each list is one or the other
 //! (`closes_or_is_unclosed`, `unclosed_never_closes`) and has one group list at most (`one_group_list`). Places of members,
-//! products and inverses are right (`find`, `product`, `inverse_of`). Lagrange's theorem: `members_of_a_subgroup_divide`.
+//! products and inverses are right (`find`, `product`, `inverse_of`), and so is where the members with one matrix end, and where
+//! those with the opposite matrix begin (`run_end`, `opposite_run`). Lagrange's theorem: `members_of_a_subgroup_divide`.
 #![tactic(auto)]
 
 mod closing;
 mod group;
+mod halving;
 mod laws;
 mod order;
+mod runs;
+mod table;
 
 pub use group::{CloseFault, Group};
 pub use laws::{

@@ -3,6 +3,7 @@ ghost use Rattle.exact_ops.specs.Moves.{IsShiftInRange};
 
 use crate::groups::{CUBIC, HEXAGONAL, group_of, op_of};
 use exact_ops::{Move, Point, UNIT, inverse};
+use group_closure::Group;
 use orbit_map::multiplicity;
 use site_symmetry::order_at;
 use std::test::Fail;
@@ -74,6 +75,42 @@ fn places_of_members(rt: HostRuntime) -> Result<(), Fail> {
     assert_eq!(rt; Some(group.inverse_of(four)), group.find(&op_of("y,-x,z")?));
     assert_eq!(rt; group.find(&op_of("-x+1/2,-y+1/2,-z")?), Some(191));
     assert_eq!(rt; group.find(&op_of("x,y,z+1/3")?), None);
+    Ok(())
+}
+
+fn run_end_at(group: &Group, i: u8) -> Option<u8> {
+    if u16::from(i) >= group.len() {
+        return None;
+    }
+    Some(group.run_end(i))
+}
+
+fn opposite_at(group: &Group, i: u8) -> Option<u8> {
+    if u16::from(i) >= group.len() {
+        return None;
+    }
+    group.opposite_run(i)
+}
+
+/// The identity, x+2y,-y,-z with three translations, and two translations alone: no matrix has its opposite.
+#[test]
+fn runs_without_opposites(rt: HostRuntime) -> Result<(), Fail> {
+    let group = group_of(rt.alloc(), &["x+2y,-y,-z", "x+1/3,y,z"])?;
+    for (i, want) in [(0, 1), (1, 4), (2, 4), (3, 4), (4, 6), (5, 6)] {
+        assert_eq!(rt; run_end_at(&group, i), Some(want), "{i}");
+        assert_eq!(rt; opposite_at(&group, i), None, "{i}");
+    }
+    Ok(())
+}
+
+/// In P 2_1/c each matrix has one operator, and its opposite another.
+#[test]
+fn runs_with_opposites(rt: HostRuntime) -> Result<(), Fail> {
+    let group = group_of(rt.alloc(), &["-x,y+1/2,-z+1/2", "-x,-y,-z"])?;
+    for (i, want) in [(0, 3), (1, 2), (2, 1), (3, 0)] {
+        assert_eq!(rt; run_end_at(&group, i), Some(i + 1), "{i}");
+        assert_eq!(rt; opposite_at(&group, i), Some(want), "{i}");
+    }
     Ok(())
 }
 

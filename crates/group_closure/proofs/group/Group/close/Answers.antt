@@ -1,26 +1,40 @@
-use Rattle.std.proofs.Common.{subst}
-use Rattle.group_closure.specs.Words.{IsUnclosed}
-use Rattle.group_closure.proofs.Lists.{group_of_sorted, same_generators, unclosed_more}
+use Rattle.std.proofs.Common.{length, sym, subst}
+use Rattle.group_closure.specs.GroupList.{IsGroup}
+use Rattle.group_closure.specs.Runs.{AreRunEnds}
+use Rattle.group_closure.specs.Table.{IsTable}
+use Rattle.group_closure.proofs.Lists.{group_of_sorted}
 use Rattle.group_closure.proofs.group.Group.close.Goals as goal
 
-pub returns-in_default-generate-clause-unclosed : goal.returns-in_default-generate-clause-unclosed
-returns-in_default-generate-clause-unclosed c =
-    λ _. unclosed_more c.collect.new.generators.items c.args.list.now (λ f. (same_generators c.args.list.now c.collect.new.generators.items c.in-Ok-collect.ensures.ok f).0) (subst IsUnclosed c.deref.ensures.value c.in_default-generate.ensures.unclosed)
+pub fill-requires-clause-group : goal.fill-requires-clause-group
+fill-requires-clause-group c =
+    let s = c.list_in_order.ensures in
+    let made = c.in-Ok-close.ensures in
+    subst IsGroup (sym c.deref-2.ensures.value) (group_of_sorted c.args.list.now _ _ _ _ made.generators made.ok.generated c.deref.ensures.value s.permutation s.first s.sorted).group
+
+pub run_ends-ends-requires : goal.run_ends-ends-requires
+run_ends-ends-requires c =
+    let s = c.list_in_order.ensures in
+    let made = c.in-Ok-close.ensures in
+    subst IsGroup (sym c.deref-3.ensures.value) (group_of_sorted c.args.list.now _ _ _ _ made.generators made.ok.generated c.deref.ensures.value s.permutation s.first s.sorted).group
 
 pub invariant_of-result : goal.invariant_of-result
 invariant_of-result c =
-    let s = c.sort_after_first.ensures in
-    let m = c.deref_mut.ensures in
-    (group_of_sorted c.args.list.now _ _ _ _ _ _ c.in-Ok-collect.ensures.ok c.deref.ensures.value c.in-Ok-generate.ensures.ok m.value m.len s.permutation s.first s.sorted).group
+    let s = c.list_in_order.ensures in
+    let made = c.in-Ok-close.ensures in
+    record {
+      group = (group_of_sorted c.args.list.now _ _ _ _ made.generators made.ok.generated c.deref.ensures.value s.permutation s.first s.sorted).group;
+      all = subst (λ v. IsTable v c.fill.new.table.items c.fill.new.inverses.items (length v)) c.deref-2.ensures.value c.fill.ensures;
+      runs = subst (λ v. AreRunEnds v c.run_ends-ends.result) c.deref-3.ensures.value c.run_ends-ends.ensures;
+    }
 
 pub returns-clause-ok : goal.returns-clause-ok
 returns-clause-ok c =
-    let s = c.sort_after_first.ensures in
-    let m = c.deref_mut.ensures in
-    (group_of_sorted c.args.list.now _ _ _ _ _ _ c.in-Ok-collect.ensures.ok c.deref.ensures.value c.in-Ok-generate.ensures.ok m.value m.len s.permutation s.first s.sorted).listed
+    let s = c.list_in_order.ensures in
+    let made = c.in-Ok-close.ensures in
+    (group_of_sorted c.args.list.now _ _ _ _ made.generators made.ok.generated c.deref.ensures.value s.permutation s.first s.sorted).listed
 
 pub returns-clause-closes : goal.returns-clause-closes
 returns-clause-closes c =
-    let s = c.sort_after_first.ensures in
-    let m = c.deref_mut.ensures in
-    (group_of_sorted c.args.list.now _ _ _ _ _ _ c.in-Ok-collect.ensures.ok c.deref.ensures.value c.in-Ok-generate.ensures.ok m.value m.len s.permutation s.first s.sorted).closes
+    let s = c.list_in_order.ensures in
+    let made = c.in-Ok-close.ensures in
+    (group_of_sorted c.args.list.now _ _ _ _ made.generators made.ok.generated c.deref.ensures.value s.permutation s.first s.sorted).closes

@@ -1,27 +1,19 @@
-use Rattle.std.proofs.Common.{Contains, Some, ap, ap₂, sym, subst, ◌∙◌}
+use Rattle.std.proofs.Common.{get_or, subst}
+use Rattle.std.proofs.lemmas.Option.{slice_get_within}
 use Rattle.lattice_algebra.specs.Operator.{product}
 use Rattle.exact_ops.specs.declared.TheConstants.{UNIT}
-use Rattle.group_closure.specs.GroupList.{IsGroup}
-use Rattle.group_closure.proofs.Places.{read_at, contains_at, same_at, product_narrow, product_member}
+use Rattle.group_closure.specs.Table.{IsTabled}
+use Rattle.group_closure.proofs.Tables.{some_at, product_read}
 use Rattle.group_closure.proofs.group.Group.product.Goals as goal
 
-pub unwrap-op-requires : goal.unwrap-op-requires
-unwrap-op-requires c =
-    let after = read_at _ _ _ _ _ c.self.view_is c.from.ensures c.requires.left c.index.ensures in
-    let first = read_at _ _ _ _ _ c.self.view_is c.from-2.ensures c.requires.right c.index-2.ensures in
-    c.compose.ensures.some.1 (product_narrow c.args.self.now _ _ (subst IsGroup c.self.view_is c.self.invariant) (contains_at _ _ _ after) (contains_at _ _ _ first))
-
-pub place_of-requires : goal.place_of-requires
-place_of-requires c =
-    let after = read_at _ _ _ _ _ c.self.view_is c.from.ensures c.requires.left c.index.ensures in
-    let first = read_at _ _ _ _ _ c.self.view_is c.from-2.ensures c.requires.right c.index-2.ensures in
-    let value = rw c.unwrap-op.ensures at c.compose.ensures.value in
-    subst (Contains c.args.self.now) (sym value) (product_member c.args.self.now _ _ (subst IsGroup c.self.view_is c.self.invariant) (contains_at _ _ _ after) (contains_at _ _ _ first))
+pub returns-clause-within : goal.returns-clause-within
+returns-clause-within c =
+    let t = subst (λ v. IsTabled v c.self.inside.products.items c.self.inside.inverses.items c.self.inside.ends) c.self.view_is c.self.invariant in
+    let f = some_at c.args.self.now c.args.i c.requires.left in
+    let g = some_at c.args.self.now c.args.j c.requires.right in
+    slice_get_within c.args.self.now (get_or c.index.result.now c.from-2.result 0) (product UNIT f.0 g.0) (product_read c.args.self.now c.self.inside.products.items c.self.inside.inverses.items c.self.inside.ends c.args.i c.args.j c.from.result c.from-2.result c.index.result.now t c.requires.left c.from.ensures c.from-2.ensures c.index.ensures f.0 g.0 f.1 g.1)
 
 pub returns-clause-value : goal.returns-clause-value
 returns-clause-value c =
-    let after = read_at _ _ _ _ _ c.self.view_is c.from.ensures c.requires.left c.index.ensures in
-    let first = read_at _ _ _ _ _ c.self.view_is c.from-2.ensures c.requires.right c.index-2.ensures in
-    let value = rw c.unwrap-op.ensures at c.compose.ensures.value in
-    λ f g p q.
-    c.place_of.ensures.place ∙ ap Some (value ∙ ap₂ (λ a b. product UNIT a b) (same_at c.args.self.now _ f c.args.i after p) (same_at c.args.self.now _ g c.args.j first q))
+    let t = subst (λ v. IsTabled v c.self.inside.products.items c.self.inside.inverses.items c.self.inside.ends) c.self.view_is c.self.invariant in
+    product_read c.args.self.now c.self.inside.products.items c.self.inside.inverses.items c.self.inside.ends c.args.i c.args.j c.from.result c.from-2.result c.index.result.now t c.requires.left c.from.ensures c.from-2.ensures c.index.ensures
