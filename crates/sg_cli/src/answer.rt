@@ -18,10 +18,10 @@ use exact_ops::Point;
 use group_closure::Group;
 use orbit_map::orbit;
 use phase_rules::{Index, Pairs};
+use reflections::{BoxSize, ClassList};
 use sg_io::{Sink, Source, put_all, read_all};
 use site_symmetry::site;
 use std::alloc::Global;
-use reflections::{BoxSize, ClassList};
 use table_print::{print_classes, print_index, print_ops, print_site, print_types};
 use triplet_text::read_lines;
 

@@ -186,5 +186,9 @@ fn box_of(x: &[u8], y: &[u8], z: &[u8]) -> Option<BoxSize>
     let h = read_natural(x, NUMBER_DIGITS)?;
     let k = read_natural(y, NUMBER_DIGITS)?;
     let l = read_natural(z, NUMBER_DIGITS)?;
-    BoxSize::of(u16::try_from(h).ok()?, u16::try_from(k).ok()?, u16::try_from(l).ok()?)
+    BoxSize::of(
+        u16::try_from(h).ok()?,
+        u16::try_from(k).ok()?,
+        u16::try_from(l).ok()?,
+    )
 }
