@@ -1,5 +1,5 @@
 -- Three texts are one index at most, and one box at most, and whether they are is decided.
-use Rattle.std.proofs.Common.{◌≡◌, ◌⊎◌, ◌≤◌, ◌<◌, List, ℕ, ℤ, unsigned_abs, inl, inr, ⊎_elim, ap, sym, ◌∙◌, subst, arith}
+use Rattle.std.proofs.Common.{◌≡◌, ◌⊎◌, ◌≤◌, ◌<◌, List, ℕ, ℤ, unsigned_abs, inl, inr, ⊎_elim, ap, subst, arith}
 use Rattle.std.proofs.lemmas.Bool.{cases_lt}
 use Rattle.lattice_algebra.specs.Operator.{AreWithin}
 use Rattle.phase_rules.specs.declared.TheConstants.{MAX_INDEX}

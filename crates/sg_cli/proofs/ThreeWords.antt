@@ -1,5 +1,5 @@
 -- Three words are what they say at most once, and whether they say it is decided, where this is so of their texts.
-use Rattle.std.proofs.Common.{◌≡◌, ◌⊎◌, ◌∷◌, [], List, ℕ, length, inl, inr, ⊎_elim, ap, sym, ◌∙◌, subst, arith}
+use Rattle.std.proofs.Common.{◌≡◌, ◌⊎◌, ◌∷◌, [], List, ℕ, length, inl, inr, ap, sym, ◌∙◌, subst, arith}
 use Rattle.sg_cli.specs.Words.{AreThree}
 
 same_texts : (x y z u v t : List ℕ) → x ∷ y ∷ z ∷ [] ≡ u ∷ v ∷ t ∷ [] → (x ≡ u) × (y ≡ v) × (z ≡ t)
