@@ -134,12 +134,11 @@ interrupted() {
     rm -f "$made/proved/linked"
     "$top/bin/sg" ops >"$made/printed" 2>"$made/told" &
     call=$!
-    for _ in {1..200}; do [ -s "$made/hangs" ] || "$REAL_SLEEP" 0.05; done
+    for _ in {1..1200}; do [ -s "$made/hangs" ] || "$REAL_SLEEP" 0.05; done
     kill "$call"
     wait "$call"
     status=$?
     [ "$status" -eq 143 ] || wrong="; status $status, not 143"
-    "$REAL_SLEEP" 0.2
     ! kill -0 "$(cat "$made/hangs")" 2>/dev/null || wrong="$wrong; rt goes on"
     [ ! -s "$made/printed" ] || wrong="$wrong; standard output is not empty"
     wrong=$wrong$(has 'bin/sg: the build was interrupted; the next call goes on with what is proved so far')
