@@ -2,7 +2,7 @@ pub mod Narrow
 pub mod Bounds
 pub mod Listed
 mod Points
-mod Images
+pub mod Images
 mod ShiftedImages
 mod WholeShifts
 mod Examples

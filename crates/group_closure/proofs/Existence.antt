@@ -1,8 +1,8 @@
 -- Operators close and have a group list, or are unclosed: products are taken until nothing new comes, as `close` does.
-use Rattle.std.proofs.Common.{◌≡◌, ◌≢◌, ◌⊎◌, ◌+◌, ◌<◌, ◌≤◌, ℕ, zero, suc, ℤ, unsigned_abs, List, [], ◌∷◌, ◌++◌, length, refl, sym, ap, ◌∙◌, subst, arith, All, Contains, inl, inr, ⊎_elim, length-append, Ordering, Less, Equal, Greater}
+use Rattle.std.proofs.Common.{◌≡◌, ◌≢◌, ◌⊎◌, ◌+◌, ◌<◌, ◌≤◌, ℕ, zero, suc, List, [], ◌∷◌, ◌++◌, length, refl, sym, ap, ◌∙◌, subst, arith, All, Contains, inl, inr, ⊎_elim, length-append, Ordering, Less, Equal, Greater}
 use Rattle.std.specs.List.{list_any}
 use Rattle.std.specs.Ordering.{ordering_reverse}
-use Rattle.std.proofs.lemmas.Bool.{cases_Bool, cases_lt, false≢true}
+use Rattle.std.proofs.lemmas.Bool.{cases_Bool, false≢true}
 use Rattle.std.proofs.lemmas.List.Elements.{All-nil, All-cons, All-contains, Contains-get_or}
 use Rattle.std.proofs.lemmas.List.Kept.{AllPairs-cons}
 use Rattle.std.proofs.lemmas.Map.Keys.{sorted_from_all_adjacent}
@@ -10,8 +10,9 @@ use Rattle.finite_groups.proofs.Closing as closing
 use Rattle.finite_groups.proofs.Members as lists
 use Rattle.finite_groups.proofs.Sorting as sorting
 use Rattle.lattice_algebra.specs.Matrix.{Matrix, ◌·◌}
-use Rattle.lattice_algebra.specs.Operator.{Operator, IsOperator, AreWithin, HasEntriesWithin, product, identity_operator}
+use Rattle.lattice_algebra.specs.Operator.{Operator, IsOperator, HasEntriesWithin, product, identity_operator}
 use Rattle.lattice_algebra.proofs.Equality.{operator_eq, contains-is}
+use Rattle.lattice_algebra.proofs.Numbers.{entries_or_not}
 use Rattle.exact_ops.specs.Narrow.{IsNarrow}
 use Rattle.exact_ops.specs.declared.TheConstants.{UNIT}
 use Rattle.group_closure.specs.declared.TheConstants.{MAX_OPERATORS}
@@ -20,7 +21,7 @@ use Rattle.group_closure.specs.Words.{Span, Closes, IsUnclosed}
 use Rattle.group_closure.specs.GroupList.{IsGroupList}
 use Rattle.group_closure.specs.Steps.{IsPartial, HasProducts, IsGenerated}
 use Rattle.group_closure.proofs.CellOperators.{cell_operators}
-use Rattle.group_closure.proofs.Growing.{AreDone, partial_one, partial_added, wide_product, too_many, generated}
+use Rattle.group_closure.proofs.Growing.{AreDone, narrow_identity, partial_one, partial_added, wide_product, too_many, generated}
 use Rattle.group_closure.proofs.Lists.{closes_by, first_not_later}
 use Rattle.group_closure.proofs.Ordered.{operator_cmp_total, operator_ties}
 
@@ -35,25 +36,6 @@ all_or_some {A} P Q which (x ∷ xs) = by (which x) (all_or_some P Q which xs)
     by (inl p) (inl ps) = inl (All-cons P x xs p ps)
     by (inl p) (inr r) = inr (r.0, lists.Contains-later r.0 x xs r.1, r.2)
     by (inr q) rest = inr (x, lists.Contains-here x xs, q)
-
-within_or_not : (n : ℕ) (a b c : ℤ) → AreWithin n a b c ⊎ (AreWithin n a b c → ⊥)
-within_or_not n a b c = by (cases_lt n (unsigned_abs a)) (cases_lt n (unsigned_abs b)) (cases_lt n (unsigned_abs c))
-  where
-    by : (n < unsigned_abs a) ⊎ (unsigned_abs a ≤ n) → (n < unsigned_abs b) ⊎ (unsigned_abs b ≤ n) → (n < unsigned_abs c) ⊎ (unsigned_abs c ≤ n) → AreWithin n a b c ⊎ (AreWithin n a b c → ⊥)
-    by (inr p) (inr q) (inr r) = inl (record { first = p; second = q; third = r })
-    by (inl p) q r = inr (λ h. omega (arith, p, h.first))
-    by (inr p) (inl q) r = inr (λ h. omega (arith, q, h.second))
-    by (inr p) (inr q) (inl r) = inr (λ h. omega (arith, r, h.third))
-
-narrow_or_wide : (m : Matrix) → HasEntriesWithin 2 m ⊎ (HasEntriesWithin 2 m → ⊥)
-narrow_or_wide m = by (within_or_not 2 m.xx m.xy m.xz) (within_or_not 2 m.yx m.yy m.yz) (within_or_not 2 m.zx m.zy m.zz)
-  where
-    by : AreWithin 2 m.xx m.xy m.xz ⊎ (AreWithin 2 m.xx m.xy m.xz → ⊥) → AreWithin 2 m.yx m.yy m.yz ⊎ (AreWithin 2 m.yx m.yy m.yz → ⊥) → AreWithin 2 m.zx m.zy m.zz ⊎ (AreWithin 2 m.zx m.zy m.zz → ⊥)
-        → HasEntriesWithin 2 m ⊎ (HasEntriesWithin 2 m → ⊥)
-    by (inl p) (inl q) (inl r) = inl (record { x = p; y = q; z = r })
-    by (inr p) q r = inr (λ h. p h.x)
-    by (inl p) (inr q) r = inr (λ h. q h.y)
-    by (inl p) (inl q) (inr r) = inr (λ h. r h.z)
 
 contains_or_not : (ops : List Operator) (f : Operator) → Contains ops f ⊎ (Contains ops f → ⊥)
 contains_or_not ops f =
@@ -83,7 +65,7 @@ module _ (generators : List Operator) (narrow : All IsNarrow generators) where
       ⊎_elim
       (λ s. rest more (partial_added generators ops more f g p narrow c lacks.1 s (inr (lacks.2, refl))) (omega (arith, length-append ops (product UNIT f g ∷ []))))
       (λ wide. inr (wide_product generators ops f g p c lacks.1 wide))
-      (narrow_or_wide (f.w · g.w))
+      (entries_or_not 2 (f.w · g.w))
 
   -- room for n more
   grow : (n : ℕ) (ops : List Operator) → IsPartial generators ops → n + length ops ≡ MAX_OPERATORS + 1 → MadeOrUnclosed
@@ -93,9 +75,6 @@ module _ (generators : List Operator) (narrow : All IsNarrow generators) where
       (λ done. inl (ops, generated generators ops narrow p (omega arith) done))
       (λ r. added_or_wide n ops p e (grow n) r.0 r.1 r.2)
       (done_or_not ops)
-
-  narrow_identity : IsNarrow identity_operator
-  narrow_identity = record { is_operator = cell_operators.one_in; within_two = omega arith }
 
   made_or_unclosed : MadeOrUnclosed
   made_or_unclosed = grow MAX_OPERATORS (identity_operator ∷ []) (partial_one generators narrow_identity) (omega arith)
@@ -155,4 +134,4 @@ closes_or_not list v =
     ⊎_elim
     (λ h. closed_in_order list (λ k d l. record { is_operator = v k d l; within_two = h k d l }))
     (λ r. inr (inr (r.0, record { spanned = span_listed list r.0 (All-contains (IsOperator UNIT) list r.0 v r.1) r.1; wide = r.2 })))
-    (all_or_some (λ (f : Operator). HasEntriesWithin 2 f.w) (λ f. HasEntriesWithin 2 f.w → ⊥) (λ f. narrow_or_wide f.w) list)
+    (all_or_some (λ (f : Operator). HasEntriesWithin 2 f.w) (λ f. HasEntriesWithin 2 f.w → ⊥) (λ f. entries_or_not 2 f.w) list)

@@ -3,8 +3,10 @@ pub mod Ordered
 pub mod Lists
 mod Growing
 mod InOrder
-mod OneMatrix
+pub mod OneMatrix
 mod Origins
+mod UnderWay
+mod Filed
 mod Tables
 pub mod Places
 pub mod Existence

@@ -14,7 +14,7 @@ use Rattle.group_closure.specs.declared.TheConstants.{MAX_OPERATORS}
 use Rattle.group_closure.specs.Order.{operator_cmp}
 use Rattle.group_closure.specs.Words.{IsLetter, Span, Closes, AreDistinct, IsUnclosed}
 use Rattle.group_closure.specs.GroupList.{IsGroupList, IsGroup}
-use Rattle.group_closure.specs.Steps.{AreGenerators, IsGenerated}
+use Rattle.group_closure.specs.Steps.{IsGenerated}
 use Rattle.group_closure.proofs.CellOperators.{cell_operators}
 use Rattle.finite_groups.proofs.Ordered.{one_order_after, strict_from_sorted}
 use Rattle.group_closure.proofs.Ordered.{operator_cmp_total, operator_ties}
@@ -117,9 +117,24 @@ group_of_closing list ops v c p =
       within = le_trans short c.1;
     }
 
--- what holds of the generators holds of the list that they came from
-pub same_generators : (list generators : List Operator) → AreGenerators list generators → (f : Operator) → Contains generators f ↔ Contains list f
-same_generators list generators g f = ((λ c. All-contains (Contains list) generators f g.listed c), (λ c. All-contains (Contains generators) list f g.all c))
+pub narrow_list : {generators : List Operator} (list ops : List Operator) → All (Contains ops) list → IsGenerated generators ops → All IsNarrow list
+narrow_list list ops all p = λ k d l. All-contains IsNarrow ops (get_or list k d) p.narrow (all k d l)
+
+-- members that have what is listed, and are made by listed ones, are what the list generates
+pub generated_by_list : (list generators ops : List Operator) → All (Contains list) generators → All (Contains ops) list → All IsNarrow generators → IsGenerated generators ops → IsGenerated list ops
+generated_by_list list generators ops listed all n p =
+    let distinct = IsDistinct-from_AllPairs cell_operators.same ops p.distinct in
+    let closed = closing.closed_from_span cell_operators generators ops (are_operators generators n) distinct p.span in
+    record {
+      first = p.first;
+      span = λ f. (
+        (λ c. span_more generators list (λ g. All-contains (Contains list) generators g listed) f ((p.span f).0 c)),
+        closing.spans cell_operators list ops (are_operators list (narrow_list list ops all p)) distinct closed.valid closed.has_one (λ x g c d. closed.closed x g c (All-contains (Contains ops) list g all d)) f,
+      );
+      distinct = p.distinct;
+      narrow = p.narrow;
+      within = p.within;
+    }
 
 -- what `close` answers with
 pub record IsGroupOf (list ops : List Operator) : Type 0 where
@@ -127,15 +142,15 @@ pub record IsGroupOf (list ops : List Operator) : Type 0 where
   pub group : IsGroup ops
   pub closes : Closes list
 
-of_generated : (list generators made sorted : List Operator) → AreGenerators list generators → IsGenerated generators made → IsPermutation made sorted → slice_get sorted 0 ≡ slice_get made 0 → IsSorted operator_cmp (drop 1 sorted) → IsGroupOf list sorted
-of_generated list generators made sorted g p m f s =
-    let k = list_of_generated generators made sorted p m f s in
+of_generated : (list made sorted : List Operator) → All IsNarrow list → IsGenerated list made → IsPermutation made sorted → slice_get sorted 0 ≡ slice_get made 0 → IsSorted operator_cmp (drop 1 sorted) → IsGroupOf list sorted
+of_generated list made sorted v p m f s =
+    let k = list_of_generated list made sorted p m f s in
     let n = All-permutation IsNarrow made sorted m p.narrow in
     let l : length sorted ≤ MAX_OPERATORS = omega (arith, length_permutation made sorted m, p.within) in
-    let h = same_list generators list sorted (same_generators list generators g) k in
-    record { listed = h; group = group_of_closing generators sorted (are_operators generators g.narrow) (closes_by generators sorted k.span l n) k; closes = closes_by list sorted h.span l n }
+    let c = closes_by list sorted k.span l n in
+    record { listed = k; group = group_of_closing list sorted (are_operators list v) c k; closes = c }
 
 -- the same of the lists that `close` lends to the functions that it calls
-pub group_of_sorted : (list collected made lent sorted : List Operator) → AreGenerators list collected → IsGenerated collected made → lent ≡ made → IsPermutation lent sorted → slice_get sorted 0 ≡ slice_get lent 0 → IsSorted operator_cmp (drop 1 sorted) → IsGroupOf list sorted
-group_of_sorted list collected made lent sorted g p e m f s =
-    of_generated list collected made sorted g p (subst (λ v. IsPermutation v sorted) e m) (f ∙ ap (λ v. slice_get v 0) e) s
+pub group_of_sorted : (list made lent sorted : List Operator) → All IsNarrow list → IsGenerated list made → lent ≡ made → IsPermutation lent sorted → slice_get sorted 0 ≡ slice_get lent 0 → IsSorted operator_cmp (drop 1 sorted) → IsGroupOf list sorted
+group_of_sorted list made lent sorted v p e m f s =
+    of_generated list made sorted v p (subst (λ v. IsPermutation v sorted) e m) (f ∙ ap (λ v. slice_get v 0) e) s

@@ -1,5 +1,5 @@
 -- Operators with one matrix stand together behind the first of a list in order.
-use Rattle.std.proofs.Common.{◌≡◌, ◌≢◌, ◌⊎◌, ◌↔◌, ℕ, ◌+◌, ◌<◌, ◌≤◌, ℤ, Some, List, [], ◌∷◌, length, get_or, set, drop, slice_get, refl, sym, ap, ◌∙◌, subst, arith, Contains, inl, inr, ⊎_elim, Ordering, Less, Equal, Greater, Bool, true, false, get_or-set_same, get_or-set_other}
+use Rattle.std.proofs.Common.{◌≡◌, ◌≢◌, ◌⊎◌, ℕ, ◌+◌, ◌<◌, ◌≤◌, ℤ, negsuc, Option, Some, None, List, length, get_or, set, drop, slice_get, refl, sym, ap, ◌∙◌, subst, arith, inl, inr, ⊎_elim, Ordering, Less, Equal, Greater, Bool, true, false, get_or-set_same, get_or-set_other}
 use Rattle.std.specs.Cmp.{IsTotalOrder}
 use Rattle.std.specs.Cmp.Lexicographic.{slice_cmp}
 use Rattle.std.specs.FinMap.{int_cmp-IsAntisymmetric, slice_cmp-IsAntisymmetric}
@@ -9,14 +9,13 @@ use Rattle.std.proofs.lemmas.Bool.{cases_lt}
 use Rattle.std.proofs.lemmas.Cmp.{lists_total, back_total, int_cmp_total}
 use Rattle.std.proofs.lemmas.List.{get_or_default}
 use Rattle.std.proofs.lemmas.Option.{slice_get_within, slice_get_read, get_or_from_slice_get}
-use Rattle.lattice_algebra.specs.Matrix.{Matrix, matrix_of, entries}
+use Rattle.lattice_algebra.specs.Matrix.{Matrix, matrix_of, entries, scaled}
 use Rattle.lattice_algebra.specs.Operator.{Operator}
 use Rattle.group_closure.specs.Order.{operator_cmp}
-use Rattle.group_closure.specs.Runs.{IsRun, AreRunEnds, GoesOn, HasMatrix, IsFirstWith}
+use Rattle.group_closure.specs.Runs.{IsRun, AreRunEnds, AreOpposites, GoesOn, HasMatrix, IsFirstWith, IsFirstIfAny}
 use Rattle.group_closure.proofs.InOrder.{before_later}
 use Rattle.group_closure.proofs.Origins.{one_there}
-use Rattle.group_closure.proofs.Places.{contains_at}
-use Rattle.group_closure.proofs.Tables.{some_at}
+use Rattle.group_closure.proofs.Places.{contains_at, some_at}
 
 -- ---- matrices by their rows, descending
 
@@ -42,11 +41,11 @@ first_part Less p e = inl refl
 first_part Equal p e = inr refl
 first_part Greater p e = cc
 
-abbrev rows_at : List Operator → ℕ → Operator → List ℤ
+abbrev pub rows_at : List Operator → ℕ → Operator → List ℤ
 rows_at ops k d = entries (get_or ops k d).w
 
 module _ (ops : List Operator) (sorted : IsStrictlySortedBy operator_cmp (drop 1 ops)) where
-  rows_later : (i j : ℕ) (d : Operator) → 0 < i → i < j → j < length ops → (rows_cmp (rows_at ops i d) (rows_at ops j d) ≡ Less) ⊎ (rows_at ops i d ≡ rows_at ops j d)
+  pub rows_later : (i j : ℕ) (d : Operator) → 0 < i → i < j → j < length ops → (rows_cmp (rows_at ops i d) (rows_at ops j d) ≡ Less) ⊎ (rows_at ops i d ≡ rows_at ops j d)
   rows_later i j d p l m = ⊎_elim (λ e. inl e) (λ e. inr (rows_tie (rows_at ops i d) (rows_at ops j d) e)) (first_part (rows_cmp (rows_at ops i d) (rows_at ops j d)) _ (before_later ops i j d sorted p l m))
 
   -- what stands between two with one matrix has it too
@@ -326,3 +325,26 @@ module _ (ops : List Operator) (i : ℕ) (p q : Operator) (t : List ℤ) (l : i 
       let qg : q ≡ g = one_there ops (i + 1) q g (slice_get_read ops (length ops) (i + 1) q refl m next) b in
       let same : entries p.w ≡ t = ap entries (ap (λ (h : Operator). h.w) pf ∙ e ∙ ap (λ (h : Operator). h.w) (sym qg)) ∙ sym rows in
       n (subst (λ r. rows_cmp r t ≡ Equal) (sym same) (rows_itself t))
+
+-- ---- where the opposite matrices begin
+
+-- it is known of the members before place i
+abbrev pub AreOppositesBefore : List Operator → List (Option ℕ) → ℕ → Type 0
+AreOppositesBefore members opposites i = (k : ℕ) (f : Operator) → k < i → slice_get members k ≡ Some f → IsFirstIfAny members (scaled (negsuc 0) f.w) (get_or opposites k None)
+
+pub opposites_more : (members : List Operator) (opposites : List (Option ℕ)) (i : ℕ) (found : Option ℕ) → i < length opposites → AreOppositesBefore members opposites i
+    → ((f : Operator) → slice_get members i ≡ Some f → IsFirstIfAny members (scaled (negsuc 0) f.w) found) → AreOppositesBefore members (set opposites i found) (i + 1)
+opposites_more members opposites i found l was next k f b p =
+    ⊎_elim
+    (λ a. subst (IsFirstIfAny members (scaled (negsuc 0) f.w)) (sym (get_or-set_other opposites i k found None (omega arith))) (was k f a p))
+    (λ a.
+    let same : i ≡ k = omega arith in
+    subst (λ j. IsFirstIfAny members (scaled (negsuc 0) f.w) (get_or (set opposites i found) j None)) same
+    (subst (IsFirstIfAny members (scaled (negsuc 0) f.w)) (sym (get_or-set_same opposites i found None l)) (next f (ap (slice_get members) same ∙ p))))
+    (cases_lt k i)
+
+pub opposite_read : (members seen : List Operator) (opposites : List (Option ℕ)) (i k : ℕ) → members ≡ seen → k ≡ i → AreOpposites members opposites
+    → (f : Operator) → slice_get seen i ≡ Some f → IsFirstIfAny seen (scaled (negsuc 0) f.w) (get_or opposites k None)
+opposite_read members seen opposites i k e q known f p =
+    subst (λ v. IsFirstIfAny v (scaled (negsuc 0) f.w) (get_or opposites k None)) e
+    (subst (λ j. IsFirstIfAny members (scaled (negsuc 0) f.w) (get_or opposites j None)) (sym q) (known i f (subst (λ v. slice_get v i ≡ Some f) (sym e) p)))

@@ -11,6 +11,7 @@ use Rattle.lattice_algebra.proofs.Operators.{inverse-IsInverse, inverse_once}
 use Rattle.exact_ops.specs.Narrow.{IsNarrow}
 use Rattle.exact_ops.specs.declared.TheConstants.{UNIT}
 use Rattle.group_closure.specs.Words.{AreDistinct}
+use Rattle.group_closure.specs.Runs.{IsRun}
 use Rattle.group_closure.specs.GroupList.{IsGroup}
 use Rattle.group_closure.proofs.CellOperators.{cell_operators}
 use Rattle.group_closure.proofs.Lists.{closed_list}
@@ -26,6 +27,10 @@ found members lent f op i e l q s =
 pub read_at : (members lent : List Operator) (f : Operator) (i k : ℕ) → lent ≡ members → k ≡ i → i < length members → f ≡ get_or lent k f → slice_get members i ≡ Some f
 read_at members lent f i k e p l q =
     found members lent f f i e (omega (arith, ap length e)) (q ∙ ap (λ j. get_or lent j f) p) (λ _. f)
+
+-- each place has a member
+pub some_at : (ops : List Operator) (k : ℕ) → k < length ops → (f : Operator) × (slice_get ops k ≡ Some f)
+some_at ops k l = (get_or ops k identity_operator, slice_get-get_or ops k identity_operator l)
 
 -- what stands at a place is a member
 pub contains_at : (members : List Operator) (f : Operator) (i : ℕ) → slice_get members i ≡ Some f → Contains members f
@@ -92,3 +97,21 @@ inverse_narrow members f p c = (All-contains IsNarrow members (inverse UNIT f) p
 
 pub each_inverse_member : (members : List Operator) (f g : Operator) → IsGroup members → Contains members f → IsInverse UNIT f g → Contains members g
 each_inverse_member members f g p c i = subst (Contains members) (inverse_once UNIT f (inverse UNIT f) g (inverse_is members f p c) i) (inverse_member members f p c)
+
+-- ---- runs of members with one matrix
+
+-- what the group says of the end of the run of the member at i
+pub record EndsRun (members : List Operator) (i end : ℕ) : Type 0 where
+  pub first : i ≡ 0 → end ≡ 1
+  pub run : 0 < i → IsRun members i end
+
+pub same_matrix : (members : List Operator) (i end k : ℕ) (f g : Operator) → EndsRun members i end → slice_get members i ≡ Some f → slice_get members k ≡ Some g → i ≤ k → k < end → g.w ≡ f.w
+same_matrix members i end k f g e p q l m =
+    ⊎_elim
+    (λ a. (e.run a k f g l p q).1 m)
+    (λ a.
+    let z : i ≡ 0 = omega arith in
+    let one = e.first z in
+    let j : i ≡ k = omega (arith, one) in
+    sym (ap (λ (x : Operator). x.w) (same_at members f g k (ap (λ n. slice_get members n) (sym j) ∙ p) q)))
+    (cases_lt 0 i)

@@ -13,17 +13,14 @@ use Rattle.group_closure.specs.declared.closing.Making.{Making}
 use Rattle.group_closure.specs.GroupList.{IsGroup}
 use Rattle.group_closure.specs.Words.{AreDistinct}
 use Rattle.group_closure.specs.Making.{IsMade}
-use Rattle.group_closure.specs.Table.{AreRanks, IsTableRow, IsTable, IsTabled}
+use Rattle.group_closure.specs.Table.{AreRanks, IsTableRow, IsTable}
 use Rattle.group_closure.proofs.CellOperators.{cell_operators}
 use Rattle.group_closure.proofs.Origins.{one_there, get_before, get_last}
-use Rattle.group_closure.proofs.Places.{contains_at, one_place, apart, inverse_member, inverse_by_product}
+use Rattle.group_closure.proofs.Places.{contains_at, one_place, apart, inverse_member, inverse_by_product, some_at}
 
 -- an operator that a list has stands at a place
 pub place_of : (ops : List Operator) (f : Operator) → Contains ops f → (k : ℕ) × (slice_get ops k ≡ Some f)
 place_of ops f c = (c.0, slice_get-get_or ops c.0 f c.1 ∙ ap Some c.2)
-
-pub some_at : (ops : List Operator) (k : ℕ) → k < length ops → (f : Operator) × (slice_get ops k ≡ Some f)
-some_at ops k l = (get_or ops k identity_operator, slice_get-get_or ops k identity_operator l)
 
 -- of the first c that were made, found has the places of the products of f by them, and row has the ranks of these at their ranks
 pub record IsRowBegun (made : List Operator) (ranks found row : List ℕ) (c : ℕ) (f : Operator) : Type 0 where
@@ -63,7 +60,7 @@ module _ (m : Making) (made : IsMade m) (f : Operator) (place : ℕ) (at : slice
   pub read_row : (ranks found row : List ℕ) (c : ℕ) (o : Origin) → IsRowBegun m.members.items ranks found row c f → 0 < c → c < length m.members.items → slice_get m.origins.items c ≡ Some o → (a b : ℕ) (x : List ℕ) → a ≡ o.earlier → b ≡ get_or found a 0 → x ≡ get_or m.products.items b x → slice_get m.products.items (get_or found o.earlier 0) ≡ Some x
   read_row ranks found row c o w p l e a b x r s q =
       let i : b ≡ get_or found o.earlier 0 = s ∙ ap (λ j. get_or found j 0) r in
-      let within : b < length m.products.items = omega (arith, i, earlier_found ranks found row c o w p l e, made.products.count) in
+      let within : b < length m.products.items = omega (arith, i, earlier_found ranks found row c o w p l e, made.all) in
       subst (λ j. slice_get m.products.items j ≡ Some x) i (slice_get_read m.products.items (length m.products.items) b x (λ _. length m.products.items) within q)
 
 -- ---- the ranks
@@ -194,13 +191,13 @@ module _ (members : List Operator) (group : IsGroup members) (f : Operator) (row
 -- ---- what the table says
 
 -- the code reads row n, which is i, at q, which is j
-pub product_read : (members : List Operator) (table : List (List ℕ)) (inverses ends : List ℕ) (i j n q : ℕ) (row : List ℕ) → IsTabled members table inverses ends → i < length members → n ≡ i → q ≡ j → row ≡ get_or table n row → (f g : Operator) → slice_get members i ≡ Some f → slice_get members j ≡ Some g → slice_get members (get_or row q 0) ≡ Some (product UNIT f g)
-product_read members table inverses ends i j n q row t l a b e f g p r =
-    let there : slice_get table i ≡ Some row = slice_get_read table (length table) i row (λ _. length table) (omega (arith, t.all.count)) (e ∙ ap (λ k. get_or table k row) a) in
-    subst (λ k. slice_get members (get_or row k 0) ≡ Some (product UNIT f g)) (sym b) (t.all.rows i f row p there j g r)
+pub product_read : (members : List Operator) (table : List (List ℕ)) (inverses : List ℕ) (i j n q : ℕ) (row : List ℕ) → IsTable members table inverses (length members) → i < length members → n ≡ i → q ≡ j → row ≡ get_or table n row → (f g : Operator) → slice_get members i ≡ Some f → slice_get members j ≡ Some g → slice_get members (get_or row q 0) ≡ Some (product UNIT f g)
+product_read members table inverses i j n q row t l a b e f g p r =
+    let there : slice_get table i ≡ Some row = slice_get_read table (length table) i row (λ _. length table) (omega (arith, t.count)) (e ∙ ap (λ k. get_or table k row) a) in
+    subst (λ k. slice_get members (get_or row k 0) ≡ Some (product UNIT f g)) (sym b) (t.rows i f row p there j g r)
 
-pub inverse_read : (members : List Operator) (table : List (List ℕ)) (inverses ends : List ℕ) (i n v : ℕ) → IsTabled members table inverses ends → i < length members → n ≡ i → v ≡ get_or inverses n v → v < length members
-inverse_read members table inverses ends i n v t l a e =
+pub inverse_read : (members : List Operator) (table : List (List ℕ)) (inverses : List ℕ) (i n v : ℕ) → IsTable members table inverses (length members) → i < length members → n ≡ i → v ≡ get_or inverses n v → v < length members
+inverse_read members table inverses i n v t l a e =
     let f = some_at members i l in
-    let r = t.all.inverse i f.0 l f.1 in
-    omega (arith, e ∙ get_or_default inverses n v 0 (omega (arith, a, t.all.count_inverses)) ∙ ap (λ k. get_or inverses k 0) a, slice_get_within members (get_or inverses i 0) r.0 r.1)
+    let r = t.inverse i f.0 l f.1 in
+    omega (arith, e ∙ get_or_default inverses n v 0 (omega (arith, a, t.count_inverses)) ∙ ap (λ k. get_or inverses k 0) a, slice_get_within members (get_or inverses i 0) r.0 r.1)

@@ -6,3 +6,4 @@ pub mod Origins
 pub mod Making
 pub mod Table
 pub mod Runs
+pub mod Buckets

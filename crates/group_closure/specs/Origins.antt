@@ -1,5 +1,5 @@
 -- How the members of a group are made, each but the first as the product of an earlier one by a generator.
-use Rattle.std.specs.Prelude.{◌≡◌, ◌⊎◌, ◌<◌, ℕ, Some, List, [], ◌∷◌, ◌++◌, length, slice_get, slice_index}
+use Rattle.std.specs.Prelude.{◌≡◌, ◌⊎◌, ◌<◌, ◌≤◌, ℕ, Some, List, [], ◌∷◌, ◌++◌, length, slice_get, slice_index}
 use Rattle.std.specs.List.{Contains}
 use Rattle.lattice_algebra.specs.Operator.{Operator, product}
 use Rattle.exact_ops.specs.declared.TheConstants.{UNIT}
@@ -24,7 +24,7 @@ pub record AreOrigins (generators members : List Operator) (origins : List Origi
 abbrev pub IsRow : List Operator → Operator → List Operator → List ℕ → Type 0
 IsRow generators f members row = (k : ℕ) (g : Operator) → slice_get generators k ≡ Some g → slice_get members (slice_index row k) ≡ Some (product UNIT f g)
 
--- such a row of each of the first i members
-pub record AreProducts (generators members : List Operator) (products : List (List ℕ)) (i : ℕ) : Type 0 where
-  pub count : length products ≡ i
+-- such a row of each of the first members
+pub record AreProducts (generators members : List Operator) (products : List (List ℕ)) : Type 0 where
+  pub within : length products ≤ length members
   pub each : (k : ℕ) (f : Operator) (row : List ℕ) → slice_get members k ≡ Some f → slice_get products k ≡ Some row → IsRow generators f members row

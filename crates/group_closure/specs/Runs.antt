@@ -1,7 +1,7 @@
 -- Members with one matrix stand together in the order of a group.
-use Rattle.std.specs.Prelude.{◌≡◌, ◌≢◌, ◌<◌, ◌≤◌, ◌↔◌, ◌⊎◌, ◌+◌, ℕ, Some, List, length, slice_get, slice_index}
+use Rattle.std.specs.Prelude.{◌≡◌, ◌≢◌, ◌<◌, ◌≤◌, ◌↔◌, ◌⊎◌, ◌+◌, ℕ, negsuc, Option, Some, None, IsSome, IfSome, List, length, slice_get, slice_index, slice_index_or}
 use Rattle.std.specs.List.{Contains}
-use Rattle.lattice_algebra.specs.Matrix.{Matrix}
+use Rattle.lattice_algebra.specs.Matrix.{Matrix, scaled}
 use Rattle.lattice_algebra.specs.Operator.{Operator}
 
 -- the members from place i on that have the matrix of that at i are those before end
@@ -24,6 +24,15 @@ pub record IsFirstWith (members : List Operator) (m : Matrix) (j : ℕ) : Type 0
   pub within : j < length members
   pub at : (g : Operator) → slice_get members j ≡ Some g → g.w ≡ m
   pub before : (k : ℕ) (g : Operator) → k < j → slice_get members k ≡ Some g → g.w ≢ m
+
+-- found is the first place of a member with the matrix m, None where there is no such member
+pub record IsFirstIfAny (members : List Operator) (m : Matrix) (found : Option ℕ) : Type 0 where
+  pub some : IsSome found ↔ HasMatrix members m
+  pub first : IfSome found (IsFirstWith members m)
+
+-- where the members with the opposite of each matrix begin
+abbrev pub AreOpposites : List Operator → List (Option ℕ) → Type 0
+AreOpposites members opposites = (i : ℕ) (f : Operator) → slice_get members i ≡ Some f → IsFirstIfAny members (scaled (negsuc 0) f.w) (slice_index_or opposites i None)
 
 -- e is end where the next member, if there is one, has the matrix of that at i, else i + 1
 abbrev pub GoesOn : List Operator → ℕ → ℕ → ℕ → Type 0

@@ -1,9 +1,9 @@
 -- The table of all products of a group, by the places of its members.
-use Rattle.std.specs.Prelude.{◌≡◌, ◌<◌, ℕ, Some, List, length, slice_get, slice_index}
+use Rattle.std.specs.Prelude.{◌≡◌, ◌<◌, ℕ, Option, Some, List, length, slice_get, slice_index}
 use Rattle.lattice_algebra.specs.Operator.{Operator, product, IsInverse}
 use Rattle.exact_ops.specs.declared.TheConstants.{UNIT}
 use Rattle.group_closure.specs.GroupList.{IsGroup}
-use Rattle.group_closure.specs.Runs.{AreRunEnds}
+use Rattle.group_closure.specs.Runs.{AreRunEnds, AreOpposites}
 
 -- ranks has the places among members of the operators of made
 abbrev pub AreRanks : List Operator → List Operator → List ℕ → Type 0
@@ -20,8 +20,9 @@ pub record IsTable (members : List Operator) (table : List (List ℕ)) (inverses
   pub count_inverses : length inverses ≡ i
   pub inverse : (k : ℕ) (f : Operator) → k < i → slice_get members k ≡ Some f → (g : Operator) × (slice_get members (slice_index inverses k) ≡ Some g) × IsInverse UNIT f g
 
--- a group with its table, and where its runs end
-pub record IsTabled (members : List Operator) (table : List (List ℕ)) (inverses ends : List ℕ) : Type 0 where
+-- a group with its table, where its runs end, and where those with the opposite matrices begin
+pub record IsTabled (members : List Operator) (table : List (List ℕ)) (inverses ends : List ℕ) (opposites : List (Option ℕ)) : Type 0 where
   pub group : IsGroup members
   pub all : IsTable members table inverses (length members)
   pub runs : AreRunEnds members ends
+  pub opposites_known : AreOpposites members opposites

@@ -11,7 +11,7 @@ use crate::MAX_OPERATORS;
 use crate::closing::{Making, Places};
 use crate::halving::place_in_order;
 use crate::order::list_in_order;
-use crate::runs::{first_with, opposite_of, run_ends};
+use crate::runs::{opposite_runs, run_ends};
 use crate::table::fill;
 use exact_ops::{Op, OpList};
 use std::alloc::Global;
@@ -34,6 +34,7 @@ pub struct Group {
     products: Vec<Places>,
     inverses: Vec<u8>,
     ends: Places,
+    opposites: [Option<u8>; MAX_OPERATORS],
 }
 
 impl Model for Group {
@@ -47,7 +48,8 @@ impl Model for Group {
 
     ghost use Rattle.group_closure.specs.Table.{IsTable, IsTabled};
 
-    ghost invariant = { λ a. IsTabled a.members.items a.products.items a.inverses.items a.ends };
+    ghost invariant = { λ a.
+        IsTabled a.members.items a.products.items a.inverses.items a.ends a.opposites };
 }
 
 impl Group {
@@ -76,11 +78,13 @@ impl Group {
         list_in_order(&making.members, &mut members);
         fill(&members, &making, &mut products, &mut inverses);
         let ends = run_ends(&members);
+        let opposites = opposite_runs(&members);
         Ok(Group {
             members,
             products,
             inverses,
             ends,
+            opposites,
         })
     }
 
@@ -153,7 +157,6 @@ impl Group {
         ensures first { (f : Operator) → slice_get self.now i ≡ Some f
             → IfSome result (IsFirstWith self.now (scaled (negsuc 0) f.w)) }
     {
-        let matrix = self.members[usize::from(i)].w();
-        first_with(&self.members, &opposite_of(&matrix))
+        self.opposites[usize::from(i)]
     }
 }

@@ -10,6 +10,7 @@
 //! those with the opposite matrix begin (`run_end`, `opposite_run`). Lagrange's theorem: `members_of_a_subgroup_divide`.
 #![tactic(auto)]
 
+mod buckets;
 mod closing;
 mod group;
 mod halving;

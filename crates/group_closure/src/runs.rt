@@ -5,7 +5,7 @@ ghost use Rattle.std.specs.Ordering.{int_cmp};
 ghost use Rattle.lattice_algebra.specs.Matrix.{matrix_of, entries, scaled};
 ghost use Rattle.lattice_algebra.specs.Operator.{HasEntriesWithin};
 ghost use Rattle.group_closure.specs.GroupList.{IsGroup};
-ghost use Rattle.group_closure.specs.Runs.{AreRunEnds, GoesOn, HasMatrix, IsFirstWith};
+ghost use Rattle.group_closure.specs.Runs.{AreRunEnds, AreOpposites, GoesOn, HasMatrix, IsFirstWith};
 
 use crate::MAX_OPERATORS;
 use crate::closing::Places;
@@ -44,8 +44,20 @@ fn end_at(members: &[Op], i: usize, end: usize) -> usize
     i + 1
 }
 
+/// For each member the first place of the matrix -W, where W is its own.
+pub fn opposite_runs(members: &[Op]) -> [Option<u8>; MAX_OPERATORS]
+    requires { IsGroup members.now }
+    ensures { AreOpposites members.now result }
+{
+    let mut opposites = [None; MAX_OPERATORS];
+    for (i, member) in members.iter().enumerate() {
+        opposites[i] = first_with(members, &opposite_of(&member.w()));
+    }
+    opposites
+}
+
 /// The first place of a matrix, by halving.
-pub fn first_with(members: &[Op], matrix: &[i32; 9]) -> Option<u8>
+fn first_with(members: &[Op], matrix: &[i32; 9]) -> Option<u8>
     requires group { IsGroup members.now }
     requires rows { entries (matrix_of matrix.now) ≡ matrix.now }
     ensures some { IsSome result ↔ HasMatrix members.now (matrix_of matrix.now) }
@@ -74,7 +86,7 @@ pub fn first_with(members: &[Op], matrix: &[i32; 9]) -> Option<u8>
 }
 
 /// The matrix -W.
-pub fn opposite_of(matrix: &[i32; 9]) -> [i32; 9]
+fn opposite_of(matrix: &[i32; 9]) -> [i32; 9]
     requires { HasEntriesWithin 2 (matrix_of matrix.now) }
     ensures { result ≡ entries (scaled (negsuc 0) (matrix_of matrix.now)) }
 {

@@ -56,7 +56,8 @@ fn row_of(members: &[Op], making: &Making, ranks: &Places, place: u8) -> Places
     requires ranks { AreRanks making.now.members.items members.now ranks.now }
     requires same { IsPermutation making.now.members.items members.now }
     requires within { place < length members.now }
-    ensures { (f : Operator) → slice_get making.now.members.items place ≡ Some f → IsTableRow f members.now result }
+    ensures { (f : Operator) → slice_get making.now.members.items place ≡ Some f
+        → IsTableRow f members.now result }
 {
     let mut found = beginning_with(place);
     let mut row = beginning_with(ranks[usize::from(place)]);

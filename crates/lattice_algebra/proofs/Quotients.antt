@@ -1,7 +1,9 @@
 -- Quotients that are whole.
-use Rattle.std.proofs.Common.{◌≡◌, ◌∷◌, [], ◌≤◌, ◌<◌, ◌*◌, ℕ, ℤ, pos, ◌+ℤ◌, ◌-ℤ◌, ◌*ℤ◌, unsigned_abs, int_div, int_rem, ap, ◌∙◌, arith}
+use Rattle.std.proofs.Common.{◌≡◌, ◌∷◌, [], ◌≤◌, ◌<◌, ◌*◌, ◌/◌, ℕ, suc, ℤ, pos, negsuc, ◌+ℤ◌, ◌-ℤ◌, ◌*ℤ◌, neg_ℤ, unsigned_abs, int_div, int_rem, ap, sym, ◌∙◌, arith}
+use Rattle.std.specs.Int.{◌∣◌}
+use Rattle.std.proofs.Math.Nat.{mul-div_cancel'}
 use Rattle.std.proofs.lemmas.Int.{ints, quot-rem, rem_below, unsigned_abs-mul}
-use Rattle.lattice_algebra.proofs.Ring.{known, var, con, ◌⊕◌, ◌⊖◌, ◌⊗◌, ring, ring_from}
+use Rattle.lattice_algebra.proofs.Ring.{known, var, con, neg, ◌⊕◌, ◌⊖◌, ◌⊗◌, ring, ring_from}
 use Rattle.lattice_algebra.proofs.Numbers.{small_multiple}
 
 rest_is : (q r n k d : ℤ) → q *ℤ d +ℤ r ≡ n → n ≡ k *ℤ d → r ≡ (k -ℤ q) *ℤ d
@@ -34,3 +36,11 @@ pub quotient_within : (n d k : ℤ) (m : ℕ) → 0 < unsigned_abs d → n ≡ k
 quotient_within n d k m some e h =
     let s : unsigned_abs n ≡ unsigned_abs k * unsigned_abs d = ap unsigned_abs e ∙ unsigned_abs-mul k d in
     cancel_size (unsigned_abs k) m (unsigned_abs d) some (omega (arith, s, h))
+
+-- what a number divides the size of is a multiple of it
+pub signed_multiple : (x : ℤ) (g : ℕ) → g ∣ unsigned_abs x → (b : ℤ) × (x ≡ pos g *ℤ b)
+signed_multiple (pos n) g h = (pos (n / g), ap pos (sym (mul-div_cancel' g h)))
+signed_multiple (negsuc n) g h = (
+  neg_ℤ (pos (suc n / g)),
+  ap (λ m. neg_ℤ (pos m)) (sym (mul-div_cancel' g h)) ∙ ring (pos g ∷ pos (suc n / g) ∷ []) (neg (var 0 ⊗ var 1)) (var 0 ⊗ neg (var 1)) tt,
+)

@@ -1,10 +1,10 @@
 -- Remainders by a positive number, of numbers and of columns.
-use Rattle.std.proofs.Common.{◌≡◌, ℕ, zero, suc, [], ◌+◌, ◌-◌, ◌*◌, ◌/◌, ◌%◌, ◌<◌, ℤ, pos, negsuc, ◌*ℤ◌, ◌+ℤ◌, neg_ℤ, ap, sym, ◌∙◌, arith, ◌∷◌}
+use Rattle.std.proofs.Common.{◌≡◌, ℕ, zero, suc, [], ◌+◌, ◌-◌, ◌*◌, ◌/◌, ◌%◌, ◌<◌, ℤ, pos, negsuc, ◌*ℤ◌, ◌+ℤ◌, ◌-ℤ◌, ◌≤ℤ◌, neg_ℤ, ap, sym, ◌∙◌, arith, ◌∷◌}
 use Rattle.std.specs.Int.{int_div_euclid, int_rem_euclid}
-use Rattle.std.proofs.lemmas.Int.{ints}
+use Rattle.std.proofs.lemmas.Int.{ints, by_lt_z}
 use lib.IntN.{+ℤ_idr, *ℤ-zero}
-use Rattle.lattice_algebra.proofs.Ring.{known, var, con, ◌⊕◌, ◌⊗◌, neg, ring, ring_from}
-use Rattle.lattice_algebra.proofs.Numbers.{above, cancel_number}
+use Rattle.lattice_algebra.proofs.Ring.{known, var, con, ◌⊕◌, ◌⊖◌, ◌⊗◌, neg, ring, ring_from}
+use Rattle.lattice_algebra.proofs.Numbers.{above, cancel_number, not_below_product}
 use Rattle.lattice_algebra.specs.Matrix.{Column, ◌+ᶜ◌, times}
 use Rattle.lattice_algebra.specs.Operator.{modulo, IsPart, AreParts}
 
@@ -62,6 +62,27 @@ rem_part n h x p = let a = rem_is n h x in one_remainder n _ _ a.0 a.1 a.2 p
 
 pub rem_of_times : (n : ℕ) → 0 < n → (k : ℤ) → int_rem_euclid (pos n *ℤ k) (pos n) ≡ pos 0
 rem_of_times n h k = rem_same n h (pos n *ℤ k) (pos 0) k (omega (arith, ints)) ∙ rem_part n h (pos 0) (omega (arith, ints))
+
+-- the quotient is the greatest number of which n times is at most x
+pub quotient_greatest : (n : ℕ) → 0 < n → (x s : ℤ) → (pos n *ℤ s) ≤ℤ x → s ≤ℤ int_div_euclid x (pos n)
+quotient_greatest n h x s l =
+    let q = int_div_euclid x (pos n) in
+    let r = int_rem_euclid x (pos n) in
+    let e = ring (pos n ∷ s ∷ q ∷ []) (var 0 ⊗ (var 1 ⊖ var 2 ⊖ con (pos 1))) (var 0 ⊗ var 1 ⊖ var 0 ⊗ var 2 ⊖ var 0) tt in
+    by_lt_z q s (λ k. absurd (far n (pos n *ℤ s) (pos n *ℤ q) r x (pos n *ℤ (s -ℤ q -ℤ pos 1)) e (quotient_is n h x) (rem_bounds n h x) l (not_below_product (pos n) (s -ℤ q -ℤ pos 1) (omega (arith, ints)) (omega (arith, ints))))) (λ k. k)
+  where
+    far : (n : ℕ) (a b r x z : ℤ) → z ≡ a -ℤ b -ℤ pos n → x ≡ r +ℤ b → IsPart n r → a ≤ℤ x → pos 0 ≤ℤ z → ⊥
+    far n a b r x z e f p l k = omega (arith, ints, e, f)
+
+-- and its opposite, for -x, the least of which n times is at least x
+pub quotient_least : (n : ℕ) → 0 < n → (x s : ℤ) → x ≤ℤ (pos n *ℤ s) → neg_ℤ (int_div_euclid (neg_ℤ x) (pos n)) ≤ℤ s
+quotient_least n h x s l =
+    let e : pos n *ℤ neg_ℤ s ≡ neg_ℤ (pos n *ℤ s) = ring (pos n ∷ s ∷ []) (var 0 ⊗ neg (var 1)) (neg (var 0 ⊗ var 1)) tt in
+    let k = quotient_greatest n h (neg_ℤ x) (neg_ℤ s) (turned (pos n *ℤ s) x (pos n *ℤ neg_ℤ s) e l) in
+    omega (arith, ints, k)
+  where
+    turned : (a x b : ℤ) → b ≡ neg_ℤ a → x ≤ℤ a → b ≤ℤ neg_ℤ x
+    turned a x b e l = omega (arith, ints, e)
 
 sum_with_nothing : (r a z : ℤ) → z ≡ r +ℤ a → r ≡ pos 0 → a ≡ z
 sum_with_nothing r a z e f = omega (arith, ints)

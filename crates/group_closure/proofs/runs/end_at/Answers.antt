@@ -1,4 +1,4 @@
-use Rattle.std.proofs.Common.{◌≡◌, ◌+◌, refl, sym, arith, inl, inr, ◌∙◌}
+use Rattle.std.proofs.Common.{◌+◌, refl, sym, arith, inl, inr, ◌∙◌}
 use Rattle.std.proofs.lemmas.Option.{slice_get_within}
 use Rattle.group_closure.proofs.OneMatrix.{next_same, next_other, equal_by, other_by}
 use Rattle.group_closure.proofs.runs.end_at.Goals as goal

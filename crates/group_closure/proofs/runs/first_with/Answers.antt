@@ -1,4 +1,4 @@
-use Rattle.std.proofs.Common.{◌≡◌, ◌≢◌, ◌+◌, ◌/◌, ◌<◌, ◌≤◌, length, refl, sym, arith, subst, Less, Equal, ◌∙◌}
+use Rattle.std.proofs.Common.{◌≡◌, ◌+◌, ◌/◌, refl, sym, arith, Equal, ◌∙◌}
 use Rattle.std.proofs.lemmas.Bool.{true≢false}
 use Rattle.lattice_algebra.specs.Matrix.{entries, matrix_of}
 use Rattle.group_closure.specs.Runs.{IsFirstWith}

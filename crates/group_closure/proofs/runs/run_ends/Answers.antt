@@ -1,7 +1,6 @@
-use Rattle.std.proofs.Common.{◌≡◌, ◌+◌, ◌-◌, ◌<◌, ◌∙◌, arith, length, subst, sym}
+use Rattle.std.proofs.Common.{◌≡◌, ◌+◌, ◌-◌, ◌<◌, ◌∙◌, arith, length, subst}
 use Rattle.std.proofs.Math.ListN.{length-set}
-use Rattle.group_closure.proofs.OneMatrix.{AreEndsFrom, ends_none, ends_more, ends_all}
-use Rattle.group_closure.proofs.Places.{some_member}
+use Rattle.group_closure.proofs.OneMatrix.{AreEndsFrom, ends_more}
 use Rattle.group_closure.proofs.runs.run_ends.Goals as goal
 
 pub loop-i-preserved : goal.loop-i-preserved

@@ -4,7 +4,8 @@ use Rattle.std.proofs.lemmas.List.Sorted.{length_permutation}
 use Rattle.std.proofs.lemmas.Option.{slice_get_read, slice_get_within}
 use Rattle.lattice_algebra.specs.Operator.{identity_operator, product}
 use Rattle.exact_ops.specs.declared.TheConstants.{UNIT}
-use Rattle.group_closure.proofs.Tables.{some_at, first_found, earlier_found, next_found, read_row, begun_first, begun_next, begun_all}
+use Rattle.group_closure.proofs.Tables.{first_found, earlier_found, next_found, read_row, begun_first, begun_next, begun_all}
+use Rattle.group_closure.proofs.Places.{some_at}
 use Rattle.group_closure.proofs.table.row_of.Goals as goal
 
 pub loop-c-init : goal.loop-c-init
@@ -40,7 +41,7 @@ index-requires c =
     let w = c.loop-c.invariant.begun f.0 f.1 in
     let e = earlier_found c.args.making.now made f.0 c.args.place f.1 c.args.ranks.now c.loop-c.found c.loop-c.row c.loop-c.c c.index-origin.result.now w p l o in
     let i : c.from-earlier.result ≡ get_or c.loop-c.found c.index-origin.result.now.earlier 0 = c.from-earlier.ensures ∙ ap (λ j. get_or c.loop-c.found j 0) c.from-in-loop-c.ensures in
-    omega (arith, i, e, made.products.count)
+    omega (arith, i, e, made.all)
 
 pub bounds-index-from : goal.bounds-index-from
 bounds-index-from c =
@@ -49,7 +50,7 @@ bounds-index-from c =
     let l : c.loop-c.c < length c.args.making.now.members.items = omega (arith, c.loop-c-test.true, n) in
     let p : 0 < c.loop-c.c = omega (arith, c.loop-c.auto.c) in
     let o : slice_get c.args.making.now.origins.items c.loop-c.c ≡ Some c.index-origin.result.now = slice_get_read c.args.making.now.origins.items (length c.args.making.now.origins.items) c.loop-c.c c.index-origin.result.now refl (omega (arith, l, made.origins.count)) c.index-origin.ensures in
-    omega (arith, c.from-in-loop-c-2.ensures, (made.origins.each c.loop-c.c c.index-origin.result.now p o).known, made.few)
+    omega (arith, c.from-in-loop-c-2.ensures, (made.origins.each c.loop-c.c c.index-origin.result.now p o).known, made.few, made.generated.within)
 
 pub bounds-ranks-from-in-loop-c : goal.bounds-ranks-from-in-loop-c
 bounds-ranks-from-in-loop-c c =

@@ -1,12 +1,18 @@
-use Rattle.std.proofs.Common.{Result, Ok, Err, OnErr, subst}
-use Rattle.group_closure.specs.Words.{IsUnclosed}
-use Rattle.group_closure.proofs.Lists.{same_generators, unclosed_more}
+use Rattle.std.proofs.Common.{arith, subst, sym, ℕ, All, Contains}
+use Rattle.lattice_algebra.specs.Operator.{Operator}
+use Rattle.std.proofs.lemmas.List.Elements.{All-nil}
+use Rattle.group_closure.proofs.UnderWay.{made_of_list, list_is_narrow}
 use Rattle.group_closure.proofs.closing.Making.close.Goals as goal
 
-for_more : {A B : Type 0} (r : Result A B) (P Q : Type 0) → (P → Q) → OnErr r P → OnErr r Q
-for_more (Ok a) P Q f h = h
-for_more (Err b) P Q f h = f h
+pub loop-k-init : goal.loop-k-init
+loop-k-init c = record {
+  ready = c.begin-buckets.ensures.ready;
+  members = λ (j : ℕ) (f : Operator) l. absurd (omega arith);
+  generators = subst (All (Contains c.args.list.now)) (sym c.begin-buckets.ensures.none) (All-nil (Contains c.args.list.now));
+}
 
-pub returns-clause-unclosed : goal.returns-clause-unclosed
-returns-clause-unclosed c =
-    for_more c.generate.result (IsUnclosed c.deref.result.now) (IsUnclosed c.args.list.now) (λ u. unclosed_more c.collect.new.generators.items c.args.list.now (λ f. (same_generators c.args.list.now c.collect.new.generators.items c.in_ok-collect.ensures.ok f).0) (subst IsUnclosed c.deref.ensures.value u)) c.generate.ensures.unclosed
+pub returns-clause-generated : goal.returns-clause-generated
+returns-clause-generated c = made_of_list c.args.list.now c.loop-k.k c.loop-k.self c.loop-k.buckets c.loop-k.invariant (omega arith)
+
+pub returns-clause-narrow : goal.returns-clause-narrow
+returns-clause-narrow c = list_is_narrow c.args.list.now c.loop-k.k c.loop-k.self c.loop-k.buckets c.loop-k.invariant (omega arith)
