@@ -7,7 +7,7 @@ use Rattle.std.proofs.Math.Nat.{pos_of_dvd_of_pos, dvd-mul_right, mul-div_cancel
 use Rattle.lattice_algebra.specs.Matrix.{Column, coordinates, times, origin}
 use Rattle.lattice_algebra.specs.Operator.{AreWithin}
 use Rattle.lattice_algebra.proofs.Ring.{var, con, ◌⊗◌, neg, ring}
-use Rattle.lattice_algebra.proofs.Quotients.{rem_of_multiple, multiple_of_quotient}
+use Rattle.lattice_algebra.proofs.Quotients.{rem_of_multiple, multiple_of_quotient, signed_multiple}
 use lib.IntN.{*ℤ_comm}
 use Rattle.lattice_algebra.proofs.Columns.{times-times, cancel_times, times_origin}
 use Rattle.lattice_algebra.proofs.Numbers.{some_size, some_gcd, abs_mul}
@@ -30,13 +30,6 @@ quotient_fits n d q b some e l m =
     fits_signed_from_abs w32 q (omega (arith, s, le))
 
 -- ---- the greatest common divisor of three entries
-
-signed_multiple : (x : ℤ) (g : ℕ) → g ∣ unsigned_abs x → (b : ℤ) × (x ≡ pos g *ℤ b)
-signed_multiple (pos n) g h = (pos (n / g), ap pos (sym (mul-div_cancel' g h)))
-signed_multiple (negsuc n) g h = (
-  neg_ℤ (pos (suc n / g)),
-  ap (λ m. neg_ℤ (pos m)) (sym (mul-div_cancel' g h)) ∙ ring (pos g ∷ pos (suc n / g) ∷ []) (neg (var 0 ⊗ var 1)) (var 0 ⊗ neg (var 1)) tt,
-)
 
 divides_entry : (x d b : ℤ) → x ≡ d *ℤ b → unsigned_abs d ∣ unsigned_abs x
 divides_entry x d b e = subst (λ n. unsigned_abs d ∣ n) (sym (ap unsigned_abs e ∙ unsigned_abs-mul d b)) (dvd-mul_right (unsigned_abs d) (unsigned_abs b))

@@ -7,9 +7,7 @@ use Rattle.std.proofs.lemmas.List.Elements.{All-contains}
 use Rattle.lattice_algebra.specs.Matrix.{Matrix, entries, det, scaled, identity, ◌·◌, IsUnimodular}
 use Rattle.lattice_algebra.specs.Operator.{Operator}
 use Rattle.lattice_algebra.specs.Powers.{power, IsOrder}
-use Rattle.lattice_algebra.proofs.Ring.{con, neg, ring}
-use Rattle.lattice_algebra.proofs.MatrixRing.{matrix_at, sym_scaled, sym_det}
-use Rattle.lattice_algebra.proofs.Matrices.{identity-·, det-·, IsUnimodular-det, det-identity}
+use Rattle.lattice_algebra.proofs.Matrices.{identity-·, det-·, det-opposite, IsUnimodular-det, det-identity}
 use Rattle.lattice_algebra.proofs.Powers.{power-zero, power-more, power-add, power-opposite}
 use Rattle.exact_ops.specs.Narrow.{IsNarrow}
 use Rattle.group_closure.specs.GroupList.{IsGroup}
@@ -44,10 +42,6 @@ order_divides w k n o e =
 det-opposite_identity : det (opposite identity) ≡ negsuc 0
 unfolding det scaled
 det-opposite_identity = refl
-
-det-opposite : (w : Matrix) → det (opposite w) ≡ neg_ℤ (det w)
-unfolding det scaled
-det-opposite w = ring (entries w) (sym_det (sym_scaled (con (negsuc 0)) (matrix_at 0))) (neg (sym_det (matrix_at 0))) tt
 
 det-power : (w : Matrix) (k : ℕ) → det w ≡ pos 1 → det (power w k) ≡ pos 1
 det-power w zero e = ap det (power-zero w) ∙ det-identity

@@ -90,7 +90,7 @@ takes h e f = row_eq (h ·ʳ f.w) e
 
 module _ (members : List Operator) (group : IsGroup members) (h : Row) where
   -- as many to e W as to e
-  moved_count : (e : Row) (k : Operator) → Contains members k → count_by (λ f. row_eq (h ·ʳ f.w) (e ·ʳ k.w)) members ≡ count_by (λ f. row_eq (h ·ʳ f.w) e) members
+  pub moved_count : (e : Row) (k : Operator) → Contains members k → count_by (λ f. row_eq (h ·ʳ f.w) (e ·ʳ k.w)) members ≡ count_by (λ f. row_eq (h ·ʳ f.w) e) members
   moved_count e k m =
       sym (permuted.sum_by-permuted cell_operators.eq cell_operators.same (λ f. product UNIT f k) members (actions.right_permutes cell_operators members (closed_list members group) k m) (λ f. cond (row_eq (h ·ʳ f.w) (e ·ʳ k.w)) 1 0))
       ∙ lists.sum_by-agree (λ f. cond (row_eq (h ·ʳ (product UNIT f k).w) (e ·ʳ k.w)) 1 0) (λ f. cond (row_eq (h ·ʳ f.w) e) 1 0) members (λ f n. ap (λ (b : Bool). cond {A = ℕ} b 1 0) (same f))

@@ -1,6 +1,8 @@
 pub mod Rows
 pub mod Classes
 pub mod Phases
+pub mod Runs
+pub mod Opposites
 pub mod SomeMark
 mod Alike
 mod Examples

@@ -1,13 +1,11 @@
 -- Absences and phase restrictions: all members that restrict a phase agree, and what one more member changes.
-use Rattle.std.proofs.Common.{◌≡◌, ◌≢◌, ℕ, ◌+◌, ◌<◌, ◌≤◌, ◌⊎◌, ◌↔◌, Bool, true, false, cond, List, [], ◌∷◌, ◌++◌, length, get_or, take, slice_get, Some, not, int_eq, ℤ, pos, negsuc, ◌+ℤ◌, ◌-ℤ◌, ◌*ℤ◌, neg_ℤ, unsigned_abs, refl, sym, ap, ap₂, ◌∙◌, subst, arith, inl, inr, ⊎_elim, Contains, IsTrue, count_by, w32, FitsSigned}
+use Rattle.std.proofs.Common.{◌≡◌, ◌≢◌, ℕ, ◌+◌, ◌<◌, ◌≤◌, ◌⊎◌, ◌↔◌, Bool, true, false, cond, List, [], ◌∷◌, ◌++◌, length, get_or, take, slice_get, Some, ℤ, pos, negsuc, ◌+ℤ◌, ◌-ℤ◌, ◌*ℤ◌, neg_ℤ, unsigned_abs, refl, sym, ap, ap₂, ◌∙◌, subst, arith, inl, inr, ⊎_elim, Contains, IsTrue, count_by, w32, FitsSigned}
 use Rattle.std.specs.Int.{int_rem_euclid, int_div_euclid}
 use Rattle.std.proofs.lemmas.Int.{ints, to_z-of_z}
 use Rattle.std.proofs.lemmas.List.Elements.{Contains-append_left, Contains-append_right, Contains-append_cases}
 use Rattle.std.proofs.lemmas.List.Sums.{sum_by_push}
 use Rattle.std.proofs.lemmas.List.{take_more, take_all}
 use Rattle.std.proofs.lemmas.Option.{get_or_from_slice_get, slice_get_within}
-use Rattle.std.specs.Cmp.Rules.{signed_items}
-use lib.Pointwise.{pointwise}
 use Rattle.finite_groups.proofs.Members as lists
 use Rattle.lattice_algebra.specs.Matrix.{◌·ᶜ◌, ◌+ᶜ◌, entries, matrix_of}
 use Rattle.lattice_algebra.specs.Operator.{Operator, product, modulo, IsPart, AreWithin}
@@ -102,10 +100,10 @@ count_yes p members f e = sum_by_push (λ x. cond (p x) 1 0) members f ∙ ap (�
 plus_none : (n : ℕ) → n + 0 ≡ n
 plus_none n = omega arith
 
-count_no : (p : Operator → Bool) (members : List Operator) (f : Operator) → p f ≡ false → count_by p (members ++ f ∷ []) ≡ count_by p members
+pub count_no : (p : Operator → Bool) (members : List Operator) (f : Operator) → p f ≡ false → count_by p (members ++ f ∷ []) ≡ count_by p members
 count_no p members f e = sum_by_push (λ x. cond (p x) 1 0) members f ∙ ap (λ (b : Bool). count_by p members + cond {A = ℕ} b 1 0) e ∙ plus_none (count_by p members)
 
-not_row : (a b : Row) → (a ≡ b → ⊥) → row_eq a b ≡ false
+pub not_row : (a b : Row) → (a ≡ b → ⊥) → row_eq a b ≡ false
 not_row a b n = by (row_eq a b) (λ t. n ((row_eq-is a b).0 t))
   where
     by : (r : Bool) → (r ≡ true → ⊥) → r ≡ false
@@ -210,27 +208,10 @@ phase_computed z a r f e q =
     let same : back w32 r ≡ int_rem_euclid z (pos UNIT) = ap (back w32) is ∙ kept w32 UNIT _ (size_of_part _ part) tt in
     whole_size _ part ∙ ap (λ v. pos (unsigned_abs v)) (sym same)
 
--- ---- the rotation part that was asked last
-
-pub record IsAsked (members : List Operator) (h : Row) (w : List ℤ) (found : Turn) : Type 0 where
-  pub by : Operator
-  pub member : Contains members by
-  pub is : w ≡ entries by.w
-  pub turn : IsTurn h (h ·ʳ by.w) found
+-- ---- a rotation part that was asked
 
 pub asked_now : (h : Row) (f : Operator) (w image : List ℤ) (found : Turn) → w ≡ entries f.w → row_of image ≡ h ·ʳ matrix_of w → IsTurn h (row_of image) found → IsTurn h (h ·ʳ f.w) found
 asked_now h f w image found e p t = subst (λ r. IsTurn h r found) (p ∙ ap (λ v. h ·ʳ matrix_of v) e) t
-
--- two equal rotation parts
-pub same_part : (f g : Operator) (v w : List ℤ) (differ : Bool) → v ≡ entries f.w → w ≡ entries g.w → differ ≡ not (pointwise int_eq v w) → differ ≡ false → g.w ≡ f.w
-same_part f g v w differ p q d n = ap matrix_of (sym q ∙ sym ((signed_items v w).0 (was_true (pointwise int_eq v w) (sym d ∙ n))) ∙ p)
-  where
-    was_true : (b : Bool) → not b ≡ false → b ≡ true
-    was_true true e = refl
-    was_true false e = cc
-
-pub asked_before : (members : List Operator) (h : Row) (f : Operator) (v w : List ℤ) (found : Turn) (differ : Bool) → IsAsked members h w found → v ≡ entries f.w → differ ≡ not (pointwise int_eq v w) → differ ≡ false → IsTurn h (h ·ʳ f.w) found
-asked_before members h f v w found differ a p d n = subst (λ m. IsTurn h (h ·ʳ m) found) (same_part f a.by v w differ p a.is d n) a.turn
 
 pub taken_more : (members : List Operator) (i : ℕ) (f : Operator) → slice_get members i ≡ Some f → take (i + 1) members ≡ take i members ++ f ∷ []
 taken_more members i f e = take_more members i f (slice_get_within members i f e) ∙ ap (λ (g : Operator). take i members ++ g ∷ []) (get_or_from_slice_get members i f f e)

@@ -1,5 +1,5 @@
 -- What is counted of the members of a group at one index.
-use Rattle.std.specs.Prelude.{◌≡◌, ◌<◌, ◌↔◌, IsTrue, pos, ℕ, List, count_by}
+use Rattle.std.specs.Prelude.{◌≡◌, ◌<◌, ◌≤◌, ◌↔◌, IsTrue, pos, ℕ, Some, List, count_by, slice_get}
 use Rattle.std.specs.List.{Contains}
 use Rattle.lattice_algebra.specs.Operator.{Operator}
 use Rattle.phase_rules.specs.declared.tallies.Turn.{Turn}
@@ -12,6 +12,10 @@ use Rattle.phase_rules.specs.Marks.{phase_shift, IsAbsent}
 pub record IsTurn (h e : Row) (turn : Turn) : Type 0 where
   pub fixes : IsTrue turn.fixes ↔ (e ≡ h)
   pub reverses : IsTrue turn.reverses ↔ (e ≡ neg_row h)
+
+-- each member from place i to before end does the same to h
+abbrev pub AreTurned : List Operator → Row → ℕ → ℕ → Turn → Type 0
+AreTurned members h i end turn = (k : ℕ) (f : Operator) → i ≤ k → k < end → slice_get members k ≡ Some f → IsTurn h (h ·ʳ f.w) turn
 
 -- a member that reverses h, and whose phase shift is s
 pub record HasReverser (members : List Operator) (h : Row) (s : ℕ) : Type 0 where

@@ -9,6 +9,7 @@
 //! absent together (`equivalent_reflections`), and 0 0 0 is never absent (`mark_of_origin`).
 #![tactic(auto)]
 
+pub mod halves;
 pub mod index;
 mod laws;
 pub mod pairs;

@@ -1,11 +1,14 @@
-ghost use Rattle.std.specs.Prelude.{◌≡◌, ◌<◌, ◌↔◌, ◌++◌, ◌∷◌, [], pos, List, length, slice_index_or, IsTrue};
+ghost use Rattle.std.specs.Prelude.{◌≡◌, ◌<◌, ◌≤◌, ◌↔◌, ◌++◌, ◌∷◌, [], pos, negsuc, ℕ, List, length, take, slice_index_or, IsTrue};
 ghost use Rattle.std.specs.Int.{int_rem_euclid};
+ghost use Rattle.lattice_algebra.specs.Matrix.{identity, scaled};
 ghost use Rattle.lattice_algebra.specs.Operator.{Operator};
 ghost use Rattle.group_closure.specs.declared.TheConstants.{MAX_OPERATORS};
+ghost use Rattle.group_closure.specs.Runs.{IsFirstWith};
+ghost use Rattle.phase_rules.specs.Halves.{HaveOpposites};
 ghost use Rattle.phase_rules.specs.Rows.{Row, row_of, ◌·ʳ◌, neg_row};
 ghost use Rattle.phase_rules.specs.Equivalent.{IsClass};
 ghost use Rattle.phase_rules.specs.Marks.{phase_shift, IsMark};
-ghost use Rattle.phase_rules.specs.Tallies.{IsTurn, IsTally};
+ghost use Rattle.phase_rules.specs.Tallies.{IsTurn, AreTurned, IsTally};
 
 use crate::index::Index;
 use crate::pairs::Pairs;
@@ -87,23 +90,66 @@ impl Tally {
         }
     }
 
-    /// That of all members. A rotation part is asked where it differs from the one before.
+    /// The members from `start` to before `end`, whose rotation parts all do this to the index. Where they neither fix it nor turn
+    /// it round, none of them is asked.
+    pub fn add_run(&mut self, group: &Group, index: &Index, start: u8, end: u8, turn: Turn)
+        requires order { start ≤ end }
+        requires within { end ≤ length group.now }
+        requires turn { AreTurned group.now index.now start end turn }
+        requires tally { IsTally (take start group.now) index.now self.old }
+        ensures { IsTally (take end group.now) index.now self.new }
+    {
+        if turn.fixes || turn.reverses {
+            self.add_members(group, index, start, end, turn);
+        }
+    }
+
+    /// The same, where each of them is asked.
+    fn add_members(&mut self, group: &Group, index: &Index, start: u8, end: u8, turn: Turn)
+        requires order { start ≤ end }
+        requires within { end ≤ length group.now }
+        requires turn { AreTurned group.now index.now start end turn }
+        requires tally { IsTally (take start group.now) index.now self.old }
+        ensures { IsTally (take end group.now) index.now self.new }
+    {
+        for i in start..end {
+            self.add(index, &group.op(i), turn);
+        }
+    }
+
+    /// That of all members. A rotation part is asked once for its run.
     pub fn of(group: &Group, index: &Index) -> Tally
         ensures { IsTally group.now index.now result }
     {
-        let order = group.len();
-        let mut w = group.op(0).w();
-        let mut turn = Turn::of(index, &index.times(&w));
+        let order = group.len() as u8;
         let mut tally = Tally::none();
-        for i in 0..order {
-            let op = group.op(i as u8);
-            if op.w() != w {
-                w = op.w();
-                turn = Turn::of(index, &index.times(&w));
-            }
-            tally.add(index, &op, turn);
+        let mut i = 0;
+        while i < order {
+            let turn = Turn::of(index, &index.times(&group.op(i).w()));
+            let end = group.run_end(i);
+            tally.add_run(group, index, i, end, turn);
+            i = end;
         }
         tally
+    }
+
+    /// That of all members, from that of the first of them, where each later one has the opposite matrix of one of these. The member
+    /// at `inversion` has the matrix -1.
+    pub fn with_opposites(&self, group: &Group, index: &Index, inversion: u8) -> Tally
+        requires inversion { IsFirstWith group.now (scaled (negsuc 0) identity) inversion }
+        requires first { (i : ℕ) × HaveOpposites group.now i
+            × IsTally (take i group.now) index.now self.now }
+        ensures { IsTally group.now index.now result }
+    {
+        if 0 < self.reversers {
+            return Tally::of(group, index);
+        }
+        Tally {
+            fixers: self.fixers,
+            reversers: self.fixers,
+            shifted: self.shifted,
+            phase: phase_of(index, &group.op(inversion)),
+        }
     }
 
     /// The mark of the index, from the tally of all members.

@@ -1,13 +1,13 @@
 -- What setting tags does to the rows of a box.
-use Rattle.std.proofs.Common.{◌≡◌, ℕ, ◌+◌, ◌<◌, ◌≤◌, ◌↔◌, ◌⊎◌, Bool, true, false, not, List, [], ◌∷◌, ◌++◌, length, set, take, slice_get, Some, inl, inr, ⊎_elim, ap, sym, ◌∙◌, subst, arith, Contains, ℤ, int_eq, count_by, length-take}
-use Rattle.std.proofs.lemmas.List.{length-set, take_all}
-use Rattle.std.proofs.lemmas.List.Elements.{Contains-append_cases}
-use Rattle.std.proofs.lemmas.List.Sums.{count_by-le-length}
-use lib.Pointwise.{pointwise}
+use Rattle.std.proofs.Common.{◌≡◌, ℕ, ◌<◌, ◌≤◌, ◌↔◌, ◌⊎◌, Bool, true, List, length, set, take, get_or, slice_get, Some, inl, inr, ⊎_elim, ap, sym, ◌∙◌, subst, arith, Contains, ℤ, negsuc, length-take}
+use Rattle.std.proofs.lemmas.Bool.{cases_lt}
+use Rattle.std.proofs.lemmas.List.{length-set, take_all, get_or-take}
+use Rattle.std.proofs.lemmas.Option.{slice_get-get_or}
 use Rattle.finite_groups.proofs.Members as lists
-use Rattle.lattice_algebra.specs.Matrix.{entries, matrix_of}
-use Rattle.lattice_algebra.specs.Operator.{Operator}
-use Rattle.group_closure.specs.declared.TheConstants.{MAX_OPERATORS}
+use Rattle.lattice_algebra.specs.Matrix.{entries, matrix_of, identity, scaled}
+use Rattle.lattice_algebra.specs.Operator.{Operator, product}
+use Rattle.exact_ops.specs.declared.TheConstants.{UNIT}
+use Rattle.group_closure.specs.GroupList.{IsGroup}
 use Rattle.group_closure.proofs.Places.{contains_at}
 use Rattle.phase_rules.specs.declared.pairs.Pairs.{Pairs}
 use Rattle.phase_rules.specs.declared.pairs.Pairs.TheVariants.{Friedel, Apart}
@@ -15,7 +15,10 @@ use Rattle.phase_rules.specs.declared.tallies.Turn.{Turn}
 use Rattle.phase_rules.specs.Rows.{Row, ◌·ʳ◌, neg_row}
 use Rattle.phase_rules.specs.Equivalent.{IsSameReflection, AreEquivalent}
 use Rattle.phase_rules.specs.Tallies.{IsTurn}
-use Rattle.phase_rules.proofs.Phases.{IsAsked, same_part, taken_more}
+use Rattle.phase_rules.specs.Halves.{HaveOpposites}
+use Rattle.phase_rules.proofs.Rows.{neg_row-neg_row}
+use Rattle.group_closure.proofs.Places.{EndsRun, same_matrix}
+use Rattle.phase_rules.proofs.Opposites.{opposite_row, opposite_member, opposite_w, front_or_behind}
 use Rattle.tag_walks.proofs.Walks as walks
 use Rattle.reflections.specs.Boxes.{Box, IsInBox, place_of, places}
 use Rattle.reflections.specs.Walks.{IsTagged}
@@ -47,13 +50,12 @@ module _ (box : Box) where
 
 -- ---- the tags of a class, member by member
 
--- of the rows of the box these are tagged: those that were, those that the first i members and the matrix w make of h; and only rows
--- that were, or that are equivalent to h
-pub record AreReached (pairs : Pairs) (members : List Operator) (box : Box) (old new : List Bool) (h : Row) (i : ℕ) (w : List ℤ) : Type 0 where
+-- of the rows of the box these are tagged: those that were, those that the first i members make of h; and only rows that were, or
+-- that are equivalent to h
+pub record AreReached (pairs : Pairs) (members : List Operator) (box : Box) (old new : List Bool) (h : Row) (i : ℕ) : Type 0 where
   pub sound : (g : Row) → IsInBox box g → IsTagged box new g → IsTagged box old g ⊎ AreEquivalent pairs members h g
   pub kept : (g : Row) → IsInBox box g → IsTagged box old g → IsTagged box new g
   pub reached : (g : Row) → IsInBox box g → AreEquivalent pairs (take i members) h g → IsTagged box new g
-  pub last : (g : Row) → IsInBox box g → IsSameReflection pairs (h ·ʳ matrix_of w) g → IsTagged box new g
 
 -- what tagging with one matrix gives
 abbrev pub AreTagged : Pairs → Box → List Bool → List Bool → Row → List ℤ → Type 0
@@ -62,52 +64,86 @@ AreTagged pairs box old new h w = (g : Row) → IsInBox box g → IsTagged box n
 by_member : (pairs : Pairs) (members : List Operator) (h g : Row) (f : Operator) (w : List ℤ) → Contains members f → w ≡ entries f.w → IsSameReflection pairs (h ·ʳ matrix_of w) g → AreEquivalent pairs members h g
 by_member pairs members h g f w m e s = record { by = f; member = m; same = subst (λ v. IsSameReflection pairs (h ·ʳ matrix_of v) g) e s }
 
--- an equivalent by one of the first i + 1 members
-earlier_or_last : (pairs : Pairs) (members : List Operator) (h g : Row) (i : ℕ) (f : Operator) → slice_get members i ≡ Some f → AreEquivalent pairs (take (i + 1) members) h g → AreEquivalent pairs (take i members) h g ⊎ IsSameReflection pairs (h ·ʳ f.w) g
-earlier_or_last pairs members h g i f e a =
-    let c : Contains (take i members ++ f ∷ []) a.by = subst (λ xs. Contains xs a.by) (taken_more members i f e) a.member in
-    ⊎_elim (λ d. inl (record { by = a.by; member = d; same = a.same }))
-    (λ d. ⊎_elim (λ s. inr (subst (λ (k : Operator). IsSameReflection pairs (h ·ʳ k.w) g) (sym s) a.same)) (λ n. lists.not_in_nil a.by n) (lists.Contains-cases a.by f [] d))
-    (Contains-append_cases (take i members) (f ∷ []) a.by c)
+-- one of the first members is one of the first i, or stands from i on
+earlier_or_later : (members : List Operator) (i end : ℕ) (f : Operator) → Contains (take end members) f → Contains (take i members) f ⊎ ((k : ℕ) × (i ≤ k) × (k < end) × (slice_get members k ≡ Some f))
+earlier_or_later members i end f c =
+    let k = c.0 in
+    let l : k < end = omega (arith, c.1, length-take end members) in
+    let m : k < length members = omega (arith, c.1, length-take end members) in
+    let e : get_or members k f ≡ f = sym (get_or-take end members k f l) ∙ c.2 in
+    ⊎_elim
+    (λ a. inl (k, omega (arith, length-take i members), get_or-take i members k f a ∙ e))
+    (λ a. inr (k, a, l, slice_get-get_or members k f m ∙ ap Some e))
+    (cases_lt k i)
 
 module _ (pairs : Pairs) (members : List Operator) (box : Box) (old : List Bool) (h : Row) where
-  pub reached_first : (new : List Bool) (f : Operator) (w : List ℤ) → Contains members f → w ≡ entries f.w → AreTagged pairs box old new h w → AreReached pairs members box old new h 0 w
-  reached_first new f w m e t = record {
-    sound = λ g j s. ⊎_elim (λ a. inl a) (λ a. inr (by_member pairs members h g f w m e a)) ((t g j).0 s);
-    kept = λ g j s. (t g j).1 (inl s);
+  pub reached_none : AreReached pairs members box old old h 0
+  reached_none = record {
+    sound = λ g j s. inl s;
+    kept = λ g j s. s;
     reached = λ g j a. lists.not_in_nil a.by a.member;
-    last = λ g j s. (t g j).1 (inr s);
   }
 
-  pub reached_more : (tags new : List Bool) (i : ℕ) (f : Operator) (was w : List ℤ) → slice_get members i ≡ Some f → w ≡ entries f.w → AreReached pairs members box old tags h i was → AreTagged pairs box tags new h w → AreReached pairs members box old new h (i + 1) w
-  reached_more tags new i f was w e q r t = record {
+  pub reached_more : (tags new : List Bool) (i end : ℕ) (f : Operator) (w : List ℤ) → slice_get members i ≡ Some f → w ≡ entries f.w → EndsRun members i end → AreReached pairs members box old tags h i → AreTagged pairs box tags new h w → AreReached pairs members box old new h end
+  reached_more tags new i end f w e q ends r t = record {
     sound = λ g j s. ⊎_elim (λ a. r.sound g j a) (λ a. inr (by_member pairs members h g f w (contains_at members f i e) q a)) ((t g j).0 s);
     kept = λ g j s. (t g j).1 (inl (r.kept g j s));
-    reached = λ g j a. ⊎_elim (λ b. (t g j).1 (inl (r.reached g j b))) (λ b. (t g j).1 (inr (subst (λ v. IsSameReflection pairs (h ·ʳ matrix_of v) g) (sym q) b))) (earlier_or_last pairs members h g i f e a);
-    last = λ g j s. (t g j).1 (inr s);
+    reached = λ g j a.
+        ⊎_elim
+        (λ b. (t g j).1 (inl (r.reached g j (record { by = a.by; member = b; same = a.same }))))
+        (λ b.
+        let same : a.by.w ≡ matrix_of w = same_matrix members i end b.0 f a.by ends e b.3 b.1 b.2 ∙ sym (ap matrix_of q) in
+        (t g j).1 (inr (subst (λ m. IsSameReflection pairs (h ·ʳ m) g) same a.same)))
+        (earlier_or_later members i end a.by a.member);
   }
 
-  pub reached_again : (tags : List Bool) (i : ℕ) (f : Operator) (v was : List ℤ) (found : Turn) (differ : Bool) → slice_get members i ≡ Some f → v ≡ entries f.w → IsAsked members h was found → differ ≡ not (pointwise int_eq v was) → differ ≡ false
-      → AreReached pairs members box old tags h i was → AreReached pairs members box old tags h (i + 1) was
-  reached_again tags i f v was found differ e q a d n r = record {
-    sound = r.sound;
-    kept = r.kept;
-    reached = λ g j b. ⊎_elim (λ c. r.reached g j c)
-        (λ c. r.last g j (subst (λ m. IsSameReflection pairs (h ·ʳ m) g) (sym (same_part f a.by v was differ q a.is d n) ∙ sym (ap matrix_of a.is)) c))
-        (earlier_or_last pairs members h g i f e b);
-    last = r.last;
-  }
-
-  pub reached_all : (new : List Bool) (i : ℕ) (w : List ℤ) → length members ≤ i → AreReached pairs members box old new h i w → (g : Row) → IsInBox box g → IsTagged box new g ↔ (IsTagged box old g ⊎ AreEquivalent pairs members h g)
-  reached_all new i w l r g j = (
+  pub reached_all : (new : List Bool) (i : ℕ) → length members ≤ i → AreReached pairs members box old new h i → (g : Row) → IsInBox box g → IsTagged box new g ↔ (IsTagged box old g ⊎ AreEquivalent pairs members h g)
+  reached_all new i l r g j = (
     r.sound g j,
     (λ s. ⊎_elim (r.kept g j) (λ a. r.reached g j (subst (λ xs. AreEquivalent pairs xs h g) (sym (take_all i members l)) a)) s),
   )
 
+-- with the first i members, where each later one has the opposite matrix of one of these, and j has the matrix -1
+module _ (members : List Operator) (box : Box) (old : List Bool) (h : Row) (group : IsGroup members) (j : Operator) (member : Contains members j) (inverts : j.w ≡ scaled (negsuc 0) identity) where
+  turned : (pairs : Pairs) (g : Row) → AreEquivalent Friedel members h g → AreEquivalent pairs members h g
+  turned Friedel g a = a
+  turned Apart g a =
+      ⊎_elim
+      (λ e. record { by = a.by; member = a.member; same = e })
+      (λ e. record {
+        by = product UNIT a.by j;
+        member = opposite_member members group j member inverts a.by a.member;
+        same = e ∙ sym (ap (λ m. h ·ʳ m) (opposite_w members group j member inverts a.by) ∙ opposite_row h a.by.w);
+      })
+      a.same
+
+  as_friedel : (pairs : Pairs) (e g : Row) → IsSameReflection pairs e g → IsSameReflection Friedel e g
+  as_friedel Friedel e g s = s
+  as_friedel Apart e g s = inl s
+
+  flipped : (e k g : Row) → k ≡ neg_row e → IsSameReflection Friedel e g → IsSameReflection Friedel k g
+  flipped e k g q s =
+      ⊎_elim
+      (λ a. inr (a ∙ sym (ap neg_row q ∙ neg_row-neg_row e)))
+      (λ a. inl (a ∙ sym q))
+      s
+
+  pub reached_by_half : (pairs : Pairs) (new : List Bool) (i : ℕ) → HaveOpposites members i → AreReached Friedel members box old new h i → (g : Row) → IsInBox box g → IsTagged box new g ↔ (IsTagged box old g ⊎ AreEquivalent pairs members h g)
+  reached_by_half pairs new i opposites r g k = (
+    (λ s. ⊎_elim (λ a. inl a) (λ a. inr (turned pairs g a)) (r.sound g k s)),
+    (λ s.
+        ⊎_elim
+        (r.kept g k)
+        (λ a.
+        let s = as_friedel pairs (h ·ʳ a.by.w) g a.same in
+        ⊎_elim
+        (λ m. r.reached g k (record { by = a.by; member = m; same = s }))
+        (λ b.
+        let o = opposites b.0 a.by b.1 b.2 in
+        r.reached g k (record { by = o.0; member = o.1; same = flipped (h ·ʳ a.by.w) (h ·ʳ o.0.w) g (ap (λ m. h ·ʳ m) o.2 ∙ opposite_row h a.by.w) s }))
+        (front_or_behind members i a.by a.member))
+        s),
+  )
+
 pub asked_part : (h : Row) (f : Operator) (w : List ℤ) (found : Turn) → w ≡ entries f.w → IsTurn h (h ·ʳ matrix_of w) found → IsTurn h (h ·ʳ f.w) found
 asked_part h f w found e t = subst (λ v. IsTurn h (h ·ʳ matrix_of v) found) e t
-
--- ---- room for one member more
-
-pub room : (p : Operator → Bool) (members : List Operator) (i n : ℕ) → i < length members → length members ≤ MAX_OPERATORS → n ≡ count_by p (take i members) → n < MAX_OPERATORS
-room p members i n l m e = omega (arith, length-take i members, count_by-le-length p (take i members), e)

@@ -31,7 +31,8 @@ impl Model for ClassList {
 
     ghost Value = { Walk };
 
-    ghost view = { λ a. record { size = a.size; pairs = a.pairs; place = a.place; tags = a.tags.items } };
+    ghost view = { λ a.
+        record { size = a.size; pairs = a.pairs; place = a.place; tags = a.tags.items } };
 
     ghost invariant = { λ a. length a.tags.items ≡ places a.size };
 }

@@ -1,6 +1,9 @@
-ghost use Rattle.std.specs.Prelude.{◌≡◌, ◌↔◌, ◌⊎◌, length};
-ghost use Rattle.lattice_algebra.specs.Matrix.{matrix_of};
+ghost use Rattle.std.specs.Prelude.{◌≡◌, ◌↔◌, ◌⊎◌, length, negsuc};
+ghost use Rattle.lattice_algebra.specs.Matrix.{matrix_of, identity, scaled};
 ghost use Rattle.lattice_algebra.specs.Operator.{HasEntriesWithin};
+ghost use Rattle.group_closure.specs.GroupList.{IsGroup};
+ghost use Rattle.group_closure.specs.Runs.{IsFirstWith};
+ghost use Rattle.phase_rules.specs.declared.pairs.Pairs.{Pairs};
 ghost use Rattle.phase_rules.specs.Rows.{Row, row_of, ◌·ʳ◌};
 ghost use Rattle.phase_rules.specs.Equivalent.{IsSameReflection, AreEquivalent};
 ghost use Rattle.phase_rules.specs.Tallies.{IsTurn, IsTally};
@@ -9,11 +12,11 @@ ghost use Rattle.reflections.specs.Walks.{IsTagged};
 
 use crate::box_size::BoxSize;
 use group_closure::Group;
+use phase_rules::halves::stands_first;
 use phase_rules::tallies::{Tally, Turn};
 use phase_rules::{Index, Pairs};
 
-/// Tags the rows of the box that are equivalent to the index, and counts what the members do to it. A rotation part is asked
-/// where it differs from the one before.
+/// Tags the rows of the box that are equivalent to the index, and counts what the members do to it.
 pub fn tag_class(
     tags: &mut [bool],
     size: &BoxSize,
@@ -26,19 +29,70 @@ pub fn tag_class(
     ensures tags { (h : Row) → IsInBox size.now h → (IsTagged size.now tags.new h
         ↔ (IsTagged size.now tags.old h ⊎ AreEquivalent pairs group.now index.now h)) }
 {
-    let order = group.len();
-    let mut w = group.op(0).w();
-    let mut turn = tag_images(tags, size, index, &w, pairs);
+    // Every group says that it is one where its length is asked.
+    let _ = group.len();
+    match group.opposite_run(0) {
+        Some(inversion) => tag_with_opposites(tags, size, group, index, inversion),
+        None => tag_by_runs(tags, size, group, index, pairs),
+    }
+}
+
+/// The same for any group. A rotation part is asked once for its run.
+fn tag_by_runs(
+    tags: &mut [bool],
+    size: &BoxSize,
+    group: &Group,
+    index: &Index,
+    pairs: Pairs,
+) -> Tally
+    requires { length tags.old ≡ places size.now }
+    ensures tally { IsTally group.now index.now result }
+    ensures tags { (h : Row) → IsInBox size.now h → (IsTagged size.now tags.new h
+        ↔ (IsTagged size.now tags.old h ⊎ AreEquivalent pairs group.now index.now h)) }
+{
+    let order = group.len() as u8;
     let mut tally = Tally::none();
-    for i in 0..order {
-        let op = group.op(i as u8);
-        if op.w() != w {
-            w = op.w();
-            turn = tag_images(tags, size, index, &w, pairs);
+    let mut i = 0;
+    while i < order {
+        let turn = tag_images(tags, size, index, &group.op(i).w(), pairs);
+        let end = group.run_end(i);
+        // Most runs do neither, and cost no call.
+        if turn.fixes || turn.reverses {
+            tally.add_run(group, index, i, end, turn);
         }
-        tally.add(index, &op, turn);
+        i = end;
     }
     tally
+}
+
+/// The same for a group with the matrix -1, that of the member at `inversion`. There h and -h are equivalent for both pairs, and
+/// one of two opposite rotation parts is asked.
+fn tag_with_opposites(
+    tags: &mut [bool],
+    size: &BoxSize,
+    group: &Group,
+    index: &Index,
+    inversion: u8,
+) -> Tally
+    requires len { length tags.old ≡ places size.now }
+    requires group { IsGroup group.now }
+    requires inversion { IsFirstWith group.now (scaled (negsuc 0) identity) inversion }
+    ensures tally { IsTally group.now index.now result }
+    ensures tags { (pairs : Pairs) (h : Row) → IsInBox size.now h → (IsTagged size.now tags.new h
+        ↔ (IsTagged size.now tags.old h ⊎ AreEquivalent pairs group.now index.now h)) }
+{
+    let mut tally = Tally::none();
+    let mut i = 0;
+    'runs: while stands_first(group, i) {
+        let turn = tag_images(tags, size, index, &group.op(i).w(), Pairs::Friedel);
+        let end = group.run_end(i);
+        // Most runs do neither, and cost no call.
+        if turn.fixes || turn.reverses {
+            tally.add_run(group, index, i, end, turn);
+        }
+        i = end;
+    }
+    tally.with_opposites(group, index, inversion)
 }
 
 /// Tags the rows of the box that this rotation part makes of the index, and says what it does to it.

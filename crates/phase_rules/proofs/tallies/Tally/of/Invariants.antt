@@ -1,7 +1,9 @@
-use Rattle.std.proofs.Common.{take}
+use Rattle.std.proofs.Common.{take, length, ◌≤◌, ◌-◌}
 use Rattle.phase_rules.specs.Tallies.{IsTally}
-use Rattle.phase_rules.proofs.Phases.{IsAsked}
 use Rattle.phase_rules.proofs.tallies.Tally.of.Given as goal
 
 abbrev pub invariant-loop-i : goal.invariant-loop-i
-invariant-loop-i l = record { tally : IsTally (take l.i l.group) l.index l.tally; asked : IsAsked l.group l.index l.w l.turn }
+invariant-loop-i l = record { within : l.i ≤ length l.group; tally : IsTally (take l.i l.group) l.index l.tally }
+
+abbrev pub decreases-loop-i : goal.decreases-loop-i
+decreases-loop-i l = length l.group - l.i
