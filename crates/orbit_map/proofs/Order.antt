@@ -15,7 +15,7 @@ use Rattle.finite_groups.proofs.Sorting.{sorted}
 use Rattle.exact_ops.specs.declared.point.Point.{Point}
 use Rattle.exact_ops.specs.Numbers.{point_in}
 use Rattle.space_groups.specs.Keys.{IsBelow}
-use Rattle.space_groups.proofs.Ordered.{below_on, which_below}
+use Rattle.space_groups.proofs.Ordered.{below_on, which_below, less_is_below}
 use Rattle.orbit_map.specs.Steps.{stored_cmp}
 
 pub stored_cmp_total : IsTotalOrder stored_cmp
@@ -43,17 +43,6 @@ stored_same p q e =
     let b = (and-eq-true_iff (pointwise int_eq p.n q.n) (int_eq p.d q.d)).0 e in
     ap₂ point_with ((signed_items p.n q.n).0 b.0) ((signed_Decides p.d q.d).0 b.1)
 
-below_from_less : (xs ys : List ℤ) → slice_cmp int_cmp xs ys ≡ Less → IsBelow xs ys
-below_from_less [] [] e = cc
-below_from_less [] (y ∷ ys) e = tt
-below_from_less (x ∷ xs) [] e = cc
-below_from_less (x ∷ xs) (y ∷ ys) e = step (int_cmp x y) (int_ranked x y (int_cmp x y) refl) e (λ h. below_from_less xs ys h)
-  where
-    step : (o : Ordering) → MatchOrdering o (x <ℤ y) (x ≡ y) (y <ℤ x) → ordering_then o (slice_cmp int_cmp xs ys) ≡ Less → (slice_cmp int_cmp xs ys ≡ Less → IsBelow xs ys) → (x <ℤ y) ⊎ ((x ≡ y) × IsBelow xs ys)
-    step Less m h rest = inl m
-    step Equal m h rest = inr (m, rest h)
-    step Greater m h rest = cc
-
 numerators_less : (o : Ordering) (d e : ℤ) → d ≡ e → ordering_then o (int_cmp d e) ≡ Less → o ≡ Less
 numerators_less Less d e q h = refl
 numerators_less Equal d e q h = absurd (let l : d <ℤ e = int_ranked d e Less (sym h) in omega (arith, ints))
@@ -69,7 +58,7 @@ three_numbers (a ∷ b ∷ c ∷ d ∷ n) e = absurd (omega arith)
 -- of stored points over one denominator, the less has the less coordinates
 pub stored_below : (p q : Point) → length p.n ≡ 3 → length q.n ≡ 3 → p.d ≡ q.d → stored_cmp p q ≡ Less → IsBelow (coordinates (point_in p).n) (coordinates (point_in q).n)
 stored_below p q h k e l =
-    let b : IsBelow p.n q.n = below_from_less p.n q.n (numerators_less (slice_cmp int_cmp p.n q.n) p.d q.d e l) in
+    let b : IsBelow p.n q.n = (less_is_below p.n q.n).0 (numerators_less (slice_cmp int_cmp p.n q.n) p.d q.d e l) in
     subst (λ v. IsBelow v (coordinates (point_in q).n)) (sym (three_numbers p.n h)) (subst (IsBelow p.n) (sym (three_numbers q.n k)) b)
 
 -- ---- the order of rational points: by their denominators, then by their coordinates

@@ -13,4 +13,4 @@ pub mod parts;
 
 pub use count::multiplicity;
 pub use laws::{one_ordered_orbit, orbit_of_point, order_times_multiplicity, some_orbit};
-pub use orbits::orbit;
+pub use orbits::{image_in_cell, orbit};

@@ -28,7 +28,7 @@ pub fn orbit(alloc: Global, group: &Group, point: &Point) -> Result<Orbit, NoMem
 }
 
 /// The image of p under the operator, moved into the cell.
-fn image_in_cell(op: &Op, point: &Point) -> Point
+pub fn image_in_cell(op: &Op, point: &Point) -> Point
     requires { IsOperator UNIT op.now }
     ensures three { length result.n ≡ 3 }
     ensures placed { IsPlaced op.now (point_in point.now) (point_in result) }

@@ -1,5 +1,5 @@
 -- Worked examples of averages, keys and rows: the definitions on literals, in parts of a cell of 24.
-use Rattle.std.proofs.Common.{◌≡◌, ◌≢◌, ◌∷◌, [], ℕ, inl, inr, ⊎_elim, List, ℤ, pos, negsuc, ◌+ℤ◌, ◌*ℤ◌, Contains, ap, refl, subst, arith}
+use Rattle.std.proofs.Common.{◌≡◌, ◌≢◌, ◌∷◌, [], inl, inr, ⊎_elim, List, ℤ, pos, negsuc, ◌+ℤ◌, ◌*ℤ◌, Contains, ap, refl, subst, arith}
 use Rattle.std.proofs.lemmas.Int.{ints}
 use Rattle.std.proofs.lemmas.List.Kept.{AllPairs-cons}
 use Rattle.std.proofs.lemmas.List.Elements.{All-from_recursion}
@@ -18,7 +18,9 @@ use Rattle.finite_groups.proofs.Members as lists
 use Rattle.space_groups.specs.Space.{AreConjugate, ScaledPoint, moved}
 use Rattle.space_groups.specs.Averages.{Block, Vector, vector_plus, block_of, block_plus, block_times, block_scaled, block_on, vector_scaled, IsMean, IsInImage}
 use Rattle.space_groups.specs.Keys.{Key, carried, key_of, IsBelow, ComesBefore}
-use Rattle.space_groups.specs.Regions.{Sizes, IsWhole, IsReach, IsNear, IsInBox, shift_by}
+use Rattle.space_groups.specs.Regions as Regions
+use Rattle.space_groups.specs.Regions.{IsWhole, AreWholeColumns, SpansImage, IsInFirstCell, shift_by}
+use Rattle.space_groups.specs.Intervals.{differences, base_shift, sums_below, sums_above, lowest, highest, IsBetween}
 use Rattle.space_groups.specs.Rows.{row_point, Lies, Row, IsRowBefore, IsAt}
 use Rattle.space_groups.proofs.Elements.{SpaceGroup}
 use Rattle.space_groups.proofs.Regions.{shift_in}
@@ -245,34 +247,49 @@ not_whole : (r : Matrix) → IsWhole 1 r diagonal → ⊥
 unfolding scaled
 not_whole r e = let x : pos 1 ≡ pos 2 *ℤ r.xx = ap (λ (m : Matrix). m.xx) e in omega (arith, ints)
 
--- with the translation 60 of 48 in x its coordinates are at most 2 + 5/4, so at most 4 and not at most 3, for x and y from 0 to 2
-abbrev sizes : ℕ → Sizes
-sizes n = record { x = n; y = n; z = 0 }
+-- its column x twice is whole, 1,1,0, and spans its image; no column of zeros does
+abbrev steps : Matrix
+steps = matrix_of (pos 1 ∷ o ∷ o ∷ pos 1 ∷ o ∷ o ∷ o ∷ o ∷ o ∷ [])
 
-reach_four : IsReach 24 2 2 (sizes 4) diagonal
-reach_four = record { x = omega arith; y = omega arith; z = omega arith }
+whole_columns : AreWholeColumns (column (pos 2) o o) steps diagonal
+unfolding Regions.diagonal ◌·◌ scaled
+whole_columns = refl
 
-not_reach_three : IsReach 24 2 2 (sizes 3) diagonal → ⊥
-not_reach_three r = omega (arith, r.x)
+steps_span : SpansImage diagonal steps
+unfolding ◌·◌ scaled
+steps_span = record { along = refl; number = pos 1; some = λ e. omega (arith, ints, e); weights = matrix_of (pos 1 ∷ pos 1 ∷ o ∷ o ∷ o ∷ o ∷ o ∷ o ∷ o ∷ []); spans = refl }
 
--- 13/4,-13/4,0 is as near, and 17/4,0,0 is not
-near_four : IsNear 24 (sizes 4) (record { n = column (pos 78) (negsuc 77) o; d = 1; some = omega arith })
-near_four = record { x = omega arith; y = omega arith; z = omega arith }
+nothing_spans : SpansImage diagonal no_matrix → ⊥
+unfolding ◌·◌ scaled
+nothing_spans s = s.some (let x : s.number *ℤ pos 1 ≡ o *ℤ s.weights.xx +ℤ o *ℤ s.weights.yx +ℤ o *ℤ s.weights.zx = ap (λ (m : Matrix). m.xx) s.spans in omega (arith, ints, x))
 
-not_near : IsNear 24 (sizes 4) (record { n = column (pos 102) o o; d = 1; some = omega arith }) → ⊥
-not_near n = omega (arith, n.x)
+-- 19/12,-11/12,0 is 5/4,-5/4,0 and a third of the step
+third_of_step : IsInFirstCell 24 diagonal steps (record { n = column (pos 38) (negsuc 21) o; d = 1; some = omega arith })
+unfolding times ◌·ᶜ◌ ◌+ᶜ◌
+third_of_step = record { at = column (pos 1) o o; over = 3; parts = record { x = omega (arith, ints); y = omega (arith, ints); z = omega (arith, ints) }; equal = refl }
 
--- -x+8,-y-8,-z fixes 4,-4,0; with -x+9,-y,-z it would be 9/2,0,0
-abbrev inversion_at : ℤ → ℤ → Map
-inversion_at x y = record { w = inversion; s = times (pos 24) (column x y o) }
+-- -x,-y,-z with a whole shift that fixes a point from 5/4,-5/4,0 to 9/4,-1/4,0: the shifts of x from 5/2 to 9/2, of y from -5/2 to -1/2, of z none
+abbrev inverting : Operator
+inverting = record { w = inversion; t = origin }
 
-in_box : IsInBox 24 (sizes 4) (inversion_at (pos 8) (negsuc 7))
-unfolding modulo times ◌+ᶜ◌
-in_box = record { shift = column (pos 8) (negsuc 7) o; is_shift = refl; x = omega arith; y = omega arith; z = omega arith }
+its_lowest : lowest 24 diagonal steps inverting ≡ column (pos 120) (negsuc 119) o
+unfolding lowest base_shift differences sums_below ◌·◌ ◌·ᶜ◌ ◌+ᶜ◌ ◌+ᵐ◌ times neg_column scaled
+its_lowest = refl
 
-not_in_box : IsInBox 24 (sizes 4) (inversion_at (pos 9) o) → ⊥
-unfolding modulo times ◌+ᶜ◌
-not_in_box b = let e : pos 216 ≡ o +ℤ pos 24 *ℤ b.shift.x = ap (λ (c : Column). c.x) b.is_shift in let l = b.x in omega (arith, ints, e, l)
+its_highest : highest 24 diagonal steps inverting ≡ column (pos 216) (negsuc 23) o
+unfolding highest base_shift differences sums_above ◌·◌ ◌·ᶜ◌ ◌+ᶜ◌ ◌+ᵐ◌ times neg_column scaled
+its_highest = refl
+
+three_between : IsBetween (pos 48) (column (pos 120) (negsuc 119) o) (column (pos 216) (negsuc 23) o) (column (pos 3) (negsuc 1) o)
+three_between = record { x = (omega (arith, ints), omega (arith, ints)); y = (omega (arith, ints), omega (arith, ints)); z = (omega (arith, ints), omega (arith, ints)) }
+
+two_not_between : IsBetween (pos 48) (column (pos 120) (negsuc 119) o) (column (pos 216) (negsuc 23) o) (column (pos 2) (negsuc 1) o) → ⊥
+two_not_between b = let x = b.x.0 in omega (arith, ints, x)
+
+-- a turn about z leaves the direction z as it is, and the inversion does not
+turned_nothing : differences threefold (matrix_of (o ∷ o ∷ o ∷ o ∷ o ∷ o ∷ o ∷ o ∷ pos 2 ∷ [])) ≡ no_matrix
+unfolding differences ◌·◌ ◌+ᵐ◌ scaled
+turned_nothing = refl
 
 -- ---- conjugate points
 

@@ -1,18 +1,18 @@
 -- A worked example: the group of -x,-y,-z has the table of nine rows that International Tables A gives for P-1.
-use Rattle.std.proofs.Common.{◌≡◌, ◌≢◌, ◌∷◌, ◌++◌, [], ℕ, zero, suc, ◌≤◌, ◌⊎◌, inl, inr, ⊎_elim, List, length, map, get_or, ℤ, pos, neg_ℤ, negsuc, ◌+ℤ◌, ◌*ℤ◌, ◌≤ℤ◌, ◌<ℤ◌, Contains, All, AllPairs, ap, ap₂, sym, ◌∙◌, refl, subst, arith, unsigned_abs}
+use Rattle.std.proofs.Common.{◌≡◌, ◌≢◌, ◌∷◌, ◌++◌, [], zero, suc, ◌≤◌, ◌⊎◌, inl, inr, ⊎_elim, List, length, map, get_or, ℤ, pos, neg_ℤ, negsuc, ◌+ℤ◌, ◌*ℤ◌, ◌≤ℤ◌, ◌<ℤ◌, Contains, All, AllPairs, ap, ap₂, sym, ◌∙◌, refl, subst, arith, unsigned_abs}
 use Rattle.std.specs.Int.{int_rem_euclid}
 use Rattle.std.proofs.lemmas.Int.{ints}
 use Rattle.std.proofs.lemmas.List.Kept.{AllPairs-cons}
-use Rattle.std.proofs.lemmas.Map.Made.{IsDistinct-from_AllPairs, AllPairs-from_IsDistinct}
+use Rattle.std.proofs.lemmas.Map.Made.{AllPairs-from_IsDistinct}
 use Rattle.std.proofs.lemmas.List.Elements.{All-from_recursion, All-contains, Contains-get_or}
 use Rattle.lattice_algebra.specs.Matrix.{Matrix, Column, scaled, identity, origin, no_matrix, ◌·◌, ◌·ᶜ◌, ◌+ᶜ◌, ◌+ᵐ◌, neg_column, times, entries, coordinates}
 use Rattle.lattice_algebra.specs.Operator.{Operator, modulo, identity_operator, HasEntriesWithin, AreWithin}
 use Rattle.lattice_algebra.specs.Map.{Map, ◌∘◌, identity_map, undo, operator_of}
 use Rattle.lattice_algebra.specs.Point.{Point, IsPoint, ◌≈◌, image}
 use Rattle.lattice_algebra.proofs.Ring.{var, con, ◌⊗◌}
-use Rattle.lattice_algebra.proofs.MatrixRing.{SymMatrix, matrix_at, column_at, ◌·ˢ◌, ◌·ˢᶜ◌, ◌+ˢᶜ◌, sym_times, sym_neg, sym_identity, sym_nothing, sym_origin, column_ring, matrix_ring}
+use Rattle.lattice_algebra.proofs.MatrixRing.{SymMatrix, matrix_at, column_at, ◌·ˢ◌, ◌·ˢᶜ◌, ◌+ˢ◌, ◌+ˢᶜ◌, sym_scaled, sym_times, sym_neg, sym_identity, sym_nothing, sym_origin, column_ring, matrix_ring}
 use Rattle.lattice_algebra.proofs.Remainders.{modulo_same, rem_is, rem_of_times}
-use Rattle.lattice_algebra.proofs.Maps.{map_path, map_eq-is, shift_of, identity-∘, ∘-identity}
+use Rattle.lattice_algebra.proofs.Maps.{map_path, shift_of, identity-∘, ∘-identity}
 use Rattle.lattice_algebra.proofs.Operators.{operators}
 use Rattle.lattice_algebra.proofs.Examples.{column, minus, inversion, inverting, both, in_both, closed_list, some_parts}
 use Rattle.finite_groups.proofs.Members as lists
@@ -20,7 +20,10 @@ use Rattle.space_groups.specs.Space.{IsElement, IsInSite, AreConjugate, HaveSame
 use Rattle.space_groups.specs.Lists.{IsSiteList}
 use Rattle.space_groups.specs.Averages.{Block, block_of, block_plus, block_times, block_scaled, IsMean, IsInImage}
 use Rattle.space_groups.specs.Keys.{Key, carried, key_of, IsBelow, ComesBefore, IsKey}
-use Rattle.space_groups.specs.Regions.{Sizes}
+use Rattle.space_groups.specs.Intervals.{differences}
+use Rattle.space_groups.specs.Tries.{IsSettled}
+use Rattle.space_groups.proofs.Grown.{full_length}
+use Rattle.space_groups.proofs.Tries.{done_from_settled, settled_along}
 use Rattle.space_groups.specs.Rows.{row_point, Lies, Row, Fits, IsRowBefore, IsTable, IsSpecial, IsRowList}
 use Rattle.space_groups.specs.Search.{IsSub, IsFull, Kept, IsKept, IsDone, IsSearch, row_of}
 use Rattle.space_groups.proofs.ScaledPoints.{moved-identity}
@@ -29,11 +32,10 @@ use Rattle.space_groups.proofs.Blocks.{block_path, times_identity, block_of-∘}
 use Rattle.space_groups.proofs.CarriedLists.{carried_scaled}
 use Rattle.space_groups.proofs.Means as means
 use Rattle.space_groups.proofs.Means.{Averaged}
-use Rattle.space_groups.proofs.FinishedSearch.{closed_sub}
+use Rattle.space_groups.proofs.Growing.{closed_sub}
 use Rattle.space_groups.proofs.Divided.{one_rotation}
 use Rattle.space_groups.proofs.Carried.{carried-identity}
 use Rattle.space_groups.proofs.Ordered.{not_before_itself, row_not_itself, row_on, one_row_list}
-use Rattle.space_groups.proofs.SiteLists.{one_length}
 use Rattle.space_groups.proofs.Laws.{one_element, some_orbit, order_times_multiplicity}
 use Rattle.space_groups.proofs.Theorem.{table_of_search, row_list_of_search}
 
@@ -210,9 +212,6 @@ pair_full c = record {
   once = (pair_sub c).once;
 }
 
-full_length : (a : Block) (xs ys : List Map) → IsFull 24 both a xs → IsFull 24 both a ys → length xs ≡ length ys
-full_length a xs ys p q = one_length xs ys (IsDistinct-from_AllPairs map_eq-is xs p.once) (IsDistinct-from_AllPairs map_eq-is ys q.once) (λ e. ((λ c. (q.exactly e).1 ((p.exactly e).0 c)), (λ c. (p.exactly e).1 ((q.exactly e).0 c))))
-
 -- ---- the group of the identity
 
 abbrev alone : List Map
@@ -275,14 +274,11 @@ alone_full = record {
 
 -- ---- what the search keeps
 
-abbrev ones : Sizes
-ones = record { x = 1; y = 1; z = 1 }
-
 abbrev trivial : Kept
-trivial = record { set = alone; average = whole_space; key = key_of 24 2 whole_space; mult = 2; denominator = 1; whole = identity; size = ones }
+trivial = record { set = alone; average = whole_space; key = key_of 24 2 whole_space; mult = 2 }
 
 abbrev at_half : Column → Kept
-at_half c = record { set = pair c; average = middle c; key = key c; mult = 1; denominator = 1; whole = no_matrix; size = ones }
+at_half c = record { set = pair c; average = middle c; key = key c; mult = 1 }
 
 -- twice the points 0,0,0 to 1/2,1/2,1/2
 abbrev corners : List Column
@@ -294,52 +290,23 @@ abbrev kept : List Kept
 kept = trivial ∷ map at_half corners
 
 trivial_kept : IsKept 24 both trivial
-unfolding block_scaled block_of scaled times
-trivial_kept = record {
-  sub = alone_sub;
-  mean = alone_mean;
-  key = alone_key;
-  mult = λ list f. omega (arith, full_length whole_space list alone f alone_full);
-  some = omega arith;
-  whole = refl;
-  reach = record { x = omega arith; y = omega arith; z = omega arith };
-}
+trivial_kept = record { sub = alone_sub; mean = alone_mean; key = alone_key; mult = λ list f. omega (arith, full_length L whole_space list alone f alone_full) }
 
-half_kept : (x y z : ℕ) → x ≤ 1 → y ≤ 1 → z ≤ 1 → IsKept 24 both (at_half (column (pos x) (pos y) (pos z)))
-unfolding scaled times
-half_kept x y z p q r =
-    let c = column (pos x) (pos y) (pos z) in
-    record {
-      sub = pair_sub c;
-      mean = pair_mean c;
-      key = pair_key c;
-      mult = λ list f. omega (arith, full_length (middle c) list (pair c) f (pair_full c));
-      some = omega arith;
-      whole = refl;
-      reach = record { x = omega arith; y = omega arith; z = omega arith };
-    }
+half_kept : (c : Column) → IsKept 24 both (at_half c)
+half_kept c = record { sub = pair_sub c; mean = pair_mean c; key = pair_key c; mult = λ list f. omega (arith, full_length L (middle c) list (pair c) f (pair_full c)) }
+
+-- what holds of the set of the identity, and of those at the corners, holds of all
+of_all : (P : Kept → Type 0) → P trivial → ((c : Column) → Contains corners c → P (at_half c)) → All P kept
+of_all P p h = λ k d l. by (get_or kept k d) (Contains-get_or kept k d l)
+  where
+    by : (s : Kept) → Contains kept s → P s
+    by s c = ⊎_elim
+        (λ e. subst P e p)
+        (λ d. let r = lists.Contains-from_map at_half s corners d in subst P r.2 (h r.0 r.1))
+        (lists.Contains-cases s trivial (map at_half corners) c)
 
 all_kept : All (IsKept 24 both) kept
-all_kept =
-    All-from_recursion (IsKept 24 both) kept (
-      trivial_kept,
-      (
-        half_kept 0 0 0 (omega arith) (omega arith) (omega arith),
-        (
-          half_kept 0 0 1 (omega arith) (omega arith) (omega arith),
-          (
-            half_kept 0 1 0 (omega arith) (omega arith) (omega arith),
-            (
-              half_kept 0 1 1 (omega arith) (omega arith) (omega arith),
-              (
-                half_kept 1 0 0 (omega arith) (omega arith) (omega arith),
-                (half_kept 1 0 1 (omega arith) (omega arith) (omega arith), (half_kept 1 1 0 (omega arith) (omega arith) (omega arith), (half_kept 1 1 1 (omega arith) (omega arith) (omega arith), tt))),
-              ),
-            ),
-          ),
-        ),
-      ),
-    )
+all_kept = of_all (IsKept 24 both) trivial_kept (λ c i. half_kept c)
 
 -- ---- nothing is left to grow
 
@@ -397,23 +364,12 @@ corner_of c =
 half_in : (c : Column) → Contains corners c → Contains kept (at_half c)
 half_in c h = lists.Contains-later (at_half c) trivial (map at_half corners) (lists.Contains-map at_half c corners h)
 
-trivial_done : IsDone 24 both kept trivial
-trivial_done e m box y h f = ⊎_elim
-    (λ r.
-    let i : identity_map ≡ e = one_rotation identity_map e y (moved-identity y) f (ap (λ (g : Map). g.w) (sym r.1)) in (
-      trivial,
-      lists.Contains-here trivial (map at_half corners),
-      record {
-        list = alone;
-        sub = alone_sub;
-        fixes = λ z. ((λ g. (g, subst (λ v. moved v z ≡ z) i (moved-identity z))), (λ g. g.0));
-        average = whole_space;
-        mean = alone_mean;
-        key = alone_key;
-      },
-    ))
-    (λ r.
-    let c : Column = r.0 in
+-- with the inversion at c / 2 the identity generates the group of that inversion
+trivial_settled : IsSettled 24 both kept trivial inverting
+trivial_settled e y is h f =
+    let s = shift_of 24 some_parts inverting e is in
+    let c : Column = s.0 in
+    let at : e ≡ inverted c = s.1 ∙ ap (λ t. record { w = inversion; s = t }) (no_shift c) in
     let k = corner_of c in (
       at_half k.0,
       half_in k.0 k.1,
@@ -421,39 +377,35 @@ trivial_done e m box y h f = ⊎_elim
         list = pair c;
         sub = pair_sub c;
         fixes = λ z. (
-          (λ g. ((λ d p. subst (λ v. moved v z ≡ z) (in_alone d p) (moved-identity z)), subst (λ v. moved v z ≡ z) (sym r.1) (g (inverted c) (other_in c)))),
-          (λ g d p. ⊎_elim (λ q. subst (λ v. moved v z ≡ z) q (moved-identity z)) (λ q. subst (λ v. moved v z ≡ z) (r.1 ∙ q) g.1) (in_pair c d p)),
+          (λ g. ((λ d p. subst (λ v. moved v z ≡ z) (in_alone d p) (moved-identity z)), subst (λ v. moved v z ≡ z) (sym at) (g (inverted c) (other_in c)))),
+          (λ g d p. ⊎_elim (λ q. subst (λ v. moved v z ≡ z) q (moved-identity z)) (λ q. subst (λ v. moved v z ≡ z) (at ∙ q) g.1) (in_pair c d p)),
         );
         average = middle c;
         mean = pair_mean c;
         key = subst (IsKey 24 both 2 (middle c)) k.2 (pair_key c);
       },
-    ))
-    (which e m)
-
-half_done : (c : Column) → Contains corners c → IsDone 24 both kept (at_half c)
-half_done c i e m box y h f =
-    let p : Contains (pair c) e = by_fixed c y (h (inverted c) (other_in c)) e m f in (
-      at_half c,
-      half_in c i,
-      record {
-        list = pair c;
-        sub = pair_sub c;
-        fixes = λ z. ((λ g. (g, g e p)), (λ g. g.0));
-        average = middle c;
-        mean = pair_mean c;
-        key = pair_key c;
-      },
     )
 
+identity_turns_nothing : differences identity whole_space.m ≡ no_matrix
+unfolding differences ◌·◌ ◌+ᵐ◌ scaled block_scaled block_of
+identity_turns_nothing = refl
+
+trivial_done : IsDone 24 both kept trivial
+trivial_done = done_from_settled L kept trivial trivial_kept (λ f m. ⊎_elim
+    (λ p. subst (IsSettled 24 both kept trivial) p (settled_along L kept trivial trivial_kept identity_operator (lists.Contains-here trivial (map at_half corners)) identity_turns_nothing))
+    (λ p. subst (IsSettled 24 both kept trivial) p trivial_settled)
+    (in_both f m))
+
+-- a point has no directions
+no_difference : (w : Matrix) → differences w no_matrix ≡ no_matrix
+unfolding differences ◌·◌ ◌+ᵐ◌ scaled
+no_difference w = matrix_ring (entries w) (sym_nothing +ˢ sym_scaled (con minus) (matrix_at 0 ·ˢ sym_nothing)) sym_nothing tt
+
+half_done : (c : Column) → Contains corners c → IsDone 24 both kept (at_half c)
+half_done c i = done_from_settled L kept (at_half c) (half_kept c) (λ f m. settled_along L kept (at_half c) (half_kept c) f (half_in c i) (no_difference f.w))
+
 all_done : All (IsDone 24 both kept) kept
-all_done = λ k d l. by (get_or kept k d) (Contains-get_or kept k d l)
-  where
-    by : (s : Kept) → Contains kept s → IsDone 24 both kept s
-    by s c = ⊎_elim
-        (λ e. subst (IsDone 24 both kept) e trivial_done)
-        (λ h. let r = lists.Contains-from_map at_half s corners h in subst (IsDone 24 both kept) r.2 (half_done r.0 r.1))
-        (lists.Contains-cases s trivial (map at_half corners) c)
+all_done = of_all (IsDone 24 both kept) trivial_done half_done
 
 -- ---- the rows
 

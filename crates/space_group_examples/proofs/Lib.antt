@@ -1,2 +1,3 @@
 mod Examples
+mod Changes
 mod Inversion

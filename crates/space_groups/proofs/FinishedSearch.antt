@@ -2,27 +2,22 @@
 use Rattle.std.proofs.Common.{◌≡◌, List, length, get_or, Contains, ap, sym, ◌∙◌, refl, subst, ⊎_elim}
 use Rattle.std.proofs.lemmas.List.{get_or_default}
 use Rattle.std.proofs.lemmas.List.Elements.{All-contains, Contains-get_or}
-use Rattle.std.proofs.lemmas.Map.Made.{IsDistinct-from_AllPairs}
 use Rattle.std.proofs.lemmas.Bool.{cases_order}
 use Rattle.lattice_algebra.specs.Map.{Map}
-use Rattle.lattice_algebra.proofs.Maps.{map_eq-is}
-use Rattle.finite_groups.specs.Words.{IsClosedList}
 use Rattle.finite_groups.proofs.Table.{Place, same_place}
 use Rattle.space_groups.specs.Averages.{Block, IsMean}
 use Rattle.space_groups.specs.Keys.{IsKey}
 use Rattle.space_groups.specs.Rows.{Row, IsRowBefore, IsAt, IsTable, IsRowList}
 use Rattle.space_groups.specs.Search.{IsSub, Kept, IsKept, IsDone, row_of, IsSearch}
-use Rattle.space_groups.proofs.Elements.{SpaceGroup, space}
+use Rattle.space_groups.proofs.Elements.{SpaceGroup}
 use Rattle.space_groups.proofs.Means.{Averaged}
 use Rattle.space_groups.proofs.Ordered.{row_not_itself}
+use Rattle.space_groups.proofs.Growing.{closed_sub}
 use Rattle.space_groups.proofs.Rows.{AreNarrow, AreKept, some_members}
 use Rattle.space_groups.proofs.TableOfKept.{table_from_kept, row_list_from_kept}
 
 module _ (L : SpaceGroup) where
   open L use {unit, some, members, closed}
-
-  pub closed_sub : (list : List Map) → IsSub unit members list → IsClosedList (space L) list
-  closed_sub list s = record { distinct = IsDistinct-from_AllPairs map_eq-is list s.once; valid = s.elements; has_one = s.identity; closed = s.products }
 
   module _ (narrow : AreNarrow members) (kept : List Kept) (rows : List Row) (search : IsSearch unit members kept rows) where
     -- a place of the rows has the kept set of its row
@@ -62,7 +57,7 @@ module _ (L : SpaceGroup) where
         one_kept r.0 k r.1 c (ap (λ (v : Row). v.key) (sym (r.2 d) ∙ (to k c).1 d))
 
     abbrev averaged : (list : List Map) (a : Block) → IsSub unit members list → IsMean (length members) list a → Averaged L (length members)
-    averaged list a s m = record { some = some_members L; list = list; closed = closed_sub list s; average = a; is_mean = m }
+    averaged list a s m = record { some = some_members L; list = list; closed = closed_sub L list s; average = a; is_mean = m }
 
     found : AreKept L (Place (length rows))
     found = record {
@@ -72,13 +67,12 @@ module _ (L : SpaceGroup) where
       is_key = λ j. (is_kept j).key;
       mult = λ j. (from j).0.mult;
       is_mult = λ j. (is_kept j).mult;
-      box = λ j. let k = (from j).0 in let h = is_kept j in record { denominator = k.denominator; some = h.some; whole = k.whole; is_whole = h.whole; size = k.size; is_reach = h.reach };
       trivial = let t = search.trivial in ((to t.0 t.1).0, ap (λ (v : Kept). v.set) (from_to t.0 t.1) ∙ t.2);
       apart = λ i j e.
           let k = one_kept (from i).0 (from j).0 (from i).1 (from j).1 e in
           same_row_place i j (row_of (from i).0) (from i).2 (λ d. (from j).2 d ∙ ap row_of (sym k));
-      grown = λ j e m b y h f.
-          let r = All-contains (IsDone unit members kept) kept (from j).0 search.done (from j).1 e m b y h f in
+      grown = λ j e m y h f.
+          let r = All-contains (IsDone unit members kept) kept (from j).0 search.done (from j).1 e m y h f in
           let g = r.2 in
           ((to r.0 r.1).0, averaged g.list g.average g.sub g.mean, g.fixes, subst (λ v. IsKey unit members (length members) g.average v) (ap (λ (v : Kept). v.key) (sym (from_to r.0 r.1))) g.key);
     }

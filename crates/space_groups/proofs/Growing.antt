@@ -2,20 +2,29 @@
 -- For the search to come: what a kept set and one more element make.
 use Rattle.std.proofs.Common.{◌≡◌, ◌∷◌, [], ◌↔◌, List, fold, All, Contains, ap, sym, ◌∙◌, subst, ⊎_elim}
 use Rattle.std.proofs.lemmas.List.Elements.{All-contains, All-head, All-tail}
+use Rattle.std.proofs.lemmas.Map.Made.{IsDistinct-from_AllPairs, AllPairs-from_IsDistinct}
 use Rattle.lattice_algebra.specs.Map.{Map, ◌∘◌, identity_map, undo}
-use Rattle.finite_groups.specs.Words.{IsLetter, Span}
+use Rattle.lattice_algebra.proofs.Maps.{map_eq-is}
+use Rattle.finite_groups.specs.Words.{IsLetter, Span, IsClosedList}
 use Rattle.finite_groups.proofs.Members as lists
 use Rattle.finite_groups.proofs.Basics as basics
 use Rattle.finite_groups.proofs.Closing as closing
 use Rattle.finite_groups.proofs.Conjugates as conjugates
 use Rattle.space_groups.specs.Space.{IsElement, ScaledPoint, moved}
-use Rattle.space_groups.specs.Search.{FixAll}
+use Rattle.space_groups.specs.Search.{IsSub, FixAll}
 use Rattle.space_groups.proofs.ScaledPoints.{moved-∘, moved-identity}
 use Rattle.space_groups.proofs.Elements.{SpaceGroup, space, on_points}
 use Rattle.space_groups.proofs.Divided.{one_rotation}
 
 module _ (L : SpaceGroup) where
   open L use {unit, some, members, closed}
+
+  -- a finite group of elements is a closed list
+  pub closed_sub : (list : List Map) → IsSub unit members list → IsClosedList (space L) list
+  closed_sub list s = record { distinct = IsDistinct-from_AllPairs map_eq-is list s.once; valid = s.elements; has_one = s.identity; closed = s.products }
+
+  pub sub_closed : (list : List Map) → IsClosedList (space L) list → IsSub unit members list
+  sub_closed list c = record { elements = c.valid; once = AllPairs-from_IsDistinct map_eq-is list c.distinct; identity = c.has_one; products = c.closed }
 
   -- a letter fixes what all generators fix
   letter_fixes : (gens : List Map) → All (IsElement unit members) gens → (z : ScaledPoint) → FixAll gens z → (e : Map) → IsLetter (space L) gens e → moved e z ≡ z

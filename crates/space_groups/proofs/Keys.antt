@@ -1,5 +1,4 @@
--- Keys: two averages have one key exactly where an element carries the image of one onto that of the other; and finitely many elements are enough to find the key.
--- For the search to come: `key_from_candidates`, by which it finds the key of an average.
+-- Keys: two averages have one key exactly where an element carries the image of one onto that of the other.
 use Rattle.std.proofs.Common.{◌≡◌, ◌++◌, ◌∷◌, [], ℕ, ◌*◌, ◌<◌, inl, inr, ⊎_elim, ◌↔◌, List, ℤ, pos, ◌*ℤ◌, Contains, ap, ap₂, sym, ◌∙◌, refl, subst}
 use Rattle.lattice_algebra.specs.Matrix.{Matrix, Column, entries, coordinates, ◌·◌, ◌·ᶜ◌, ◌+ᶜ◌, neg_column, times, scaled, origin, det, adjugate, matrix_of, column_of}
 use Rattle.lattice_algebra.specs.Operator.{Operator, modulo, AreParts}
@@ -41,7 +40,7 @@ one_of p q f g =
     let t = same_coordinates p.t q.t (same_lists _ _ (λ l. f (inr (m, l))) (λ l. g (inr (sym m, l)))) in
     λ i. record { m = m i; t = t i }
 
-key_path : (p q : Key) → p.m ≡ q.m → p.t ≡ q.t → p ≡ q
+pub key_path : (p q : Key) → p.m ≡ q.m → p.t ≡ q.t → p ≡ q
 key_path p q e f = λ i. record { m = e i; t = f i }
 
 -- ---- what an element makes of a translation
@@ -133,84 +132,10 @@ same_by_shift unit n hu hn a b p q two two' e =
       carried_shift unit k a ∙ block_path _ _ m (ap₂ (λ x y. a.t +ᶜ (times (pos unit *ℤ x) k +ᶜ neg_column (times (pos unit) y))) p none ∙ add_nothing a.t (times un k) (pos unit) ∙ sym t) (p ∙ sym q),
     )
 
--- ---- finitely many elements are enough
-
-candidate_form : (w m v : Matrix) (t s j : Column) (u q n : ℤ) → (w · m) ·ᶜ neg_column (v ·ᶜ (s +ᶜ times u (times q j))) +ᶜ times (pos 1) (w ·ᶜ t +ᶜ times n (s +ᶜ times u (times q j)))
-    ≡ (w · m) ·ᶜ neg_column (v ·ᶜ s) +ᶜ times (pos 1) (w ·ᶜ t +ᶜ times n s) +ᶜ (times (u *ℤ n) (times q j) +ᶜ neg_column (times u ((w · scaled q m · v) ·ᶜ j)))
-unfolding ◌·◌ ◌·ᶜ◌ ◌+ᶜ◌ times neg_column scaled
-candidate_form w m v t s j u q n =
-    let U = var 0 in
-    let Q = var 1 in
-    let N = var 2 in
-    let W = matrix_at 3 in
-    let M = matrix_at 12 in
-    let V = matrix_at 21 in
-    let T = column_at 30 in
-    let S = column_at 33 in
-    let J = column_at 36 in
-    let one = con (pos 1) in
-    let far = S +ˢᶜ sym_times U (sym_times Q J) in
-    column_ring (u ∷ q ∷ n ∷ (entries w ++ (entries m ++ (entries v ++ (coordinates t ++ (coordinates s ++ coordinates j))))))
-    ((W ·ˢ M) ·ˢᶜ sym_neg (V ·ˢᶜ far) +ˢᶜ sym_times one (W ·ˢᶜ T +ˢᶜ sym_times N far))
-    ((W ·ˢ M) ·ˢᶜ sym_neg (V ·ˢᶜ S) +ˢᶜ sym_times one (W ·ˢᶜ T +ˢᶜ sym_times N S) +ˢᶜ (sym_times (U ⊗ N) (sym_times Q J) +ˢᶜ sym_neg (sym_times U ((W ·ˢ sym_scaled Q M ·ˢ V) ·ˢᶜ J))))
-    tt
-
-whole_form : (w r v : Matrix) (j : Column) (u q n : ℤ) → times (u *ℤ n) (times q j) +ᶜ neg_column (times u ((w · scaled n r · v) ·ᶜ j)) ≡ times (u *ℤ n) (times q j +ᶜ neg_column ((w · r · v) ·ᶜ j))
-unfolding ◌·◌ ◌·ᶜ◌ ◌+ᶜ◌ times neg_column scaled
-whole_form w r v j u q n =
-    let U = var 0 in
-    let Q = var 1 in
-    let N = var 2 in
-    let W = matrix_at 3 in
-    let R = matrix_at 12 in
-    let V = matrix_at 21 in
-    let J = column_at 30 in
-    column_ring (u ∷ q ∷ n ∷ (entries w ++ (entries r ++ (entries v ++ coordinates j))))
-    (sym_times (U ⊗ N) (sym_times Q J) +ˢᶜ sym_neg (sym_times U ((W ·ˢ sym_scaled N R ·ˢ V) ·ˢᶜ J)))
-    (sym_times (U ⊗ N) (sym_times Q J +ˢᶜ sym_neg ((W ·ˢ R ·ˢ V) ·ˢᶜ J)))
-    tt
-
--- maps that differ by q times a whole shift give one key
-same_candidate : (unit q n : ℕ) → 0 < unit * n → (r : Matrix) (a : Block) → a.n ≡ pos n → IsWhole q r a → (w : Matrix) (s j : Column)
-    → key_of unit n (carried (record { w = w; s = s +ᶜ times (pos unit) (times (pos q) j) }) a) ≡ key_of unit n (carried (record { w = w; s = s }) a)
-unfolding key_of carried block_times block_of undo
-same_candidate unit q n h r a number whole w s j =
-    let v = (undo (record { w = w; s = s })).w in
-    let u = pos unit in
-    key_path _ _ refl (modulo_same (unit * n) h _ _ (times (pos q) j +ᶜ neg_column ((w · r · v) ·ᶜ j))
-    (candidate_form w a.m v a.t s j u (pos q) a.n
-    ∙ ap (λ m. (w · a.m) ·ᶜ neg_column (v ·ᶜ s) +ᶜ times (pos 1) (w ·ᶜ a.t +ᶜ times a.n s) +ᶜ (times (u *ℤ a.n) (times (pos q) j) +ᶜ neg_column (times u ((w · m · v) ·ᶜ j)))) whole
-    ∙ ap (λ c. (w · a.m) ·ᶜ neg_column (v ·ᶜ s) +ᶜ times (pos 1) (w ·ᶜ a.t +ᶜ times a.n s) +ᶜ c) (whole_form w r v j u (pos q) a.n ∙ ap (λ k. times (u *ℤ k) (times (pos q) j +ᶜ neg_column ((w · r · v) ·ᶜ j))) number)))
+-- ---- averages with one key
 
 module _ (L : SpaceGroup) where
   open L use {unit, some, members, closed}
-
-  pub candidate : (q n : ℕ) → 0 < q → 0 < n → (r : Matrix) (a : Block) → a.n ≡ pos n → IsWhole q r a → (g : Map) → IsElement unit members g
-      → (f : Operator) × (k : Column) × Contains members f × AreParts q k × (key_of unit n (carried g a) ≡ key_of unit n (carried (shifted unit f k) a))
-  unfolding operator_of
-  candidate q n hq hn r a number whole g m =
-      let c = whole_part unit some g.s in
-      let d = whole_part q hq c.0 in
-      let k = modulo q c.0 in
-      let j = d.0 in
-      let is : g.s ≡ (modulo unit g.s +ᶜ times (pos unit) k) +ᶜ times (pos unit) (times (pos q) j) =
-      c.1 ∙ ap (λ v. modulo unit g.s +ᶜ times (pos unit) v) d.1 ∙ sym (join_shifts (pos unit) (modulo unit g.s) k (times (pos q) j)) in (
-        operator_of unit g,
-        k,
-        m,
-        modulo_parts q hq c.0,
-        ap (λ s. key_of unit n (carried (record { w = g.w; s = s }) a)) is ∙ same_candidate unit q n (positive_product unit n some hn) r a number whole g.w (modulo unit g.s +ᶜ times (pos unit) k) j,
-      )
-
-  -- what the loop over members and shifts below q finds is the key
-  pub key_from_candidates : (q n : ℕ) → 0 < q → 0 < n → (r : Matrix) (a : Block) → a.n ≡ pos n → IsWhole q r a → (p : Key) (g : Map) → IsElement unit members g → key_of unit n (carried g a) ≡ p
-      → ((f : Operator) (k : Column) → Contains members f → AreParts q k → ComesBefore (key_of unit n (carried (shifted unit f k) a)) p → ⊥) → IsKey unit members n a p
-  key_from_candidates q n hq hn r a number whole p g m e h = record {
-    by = g;
-    element = m;
-    gives = e;
-    first = λ g' m' l. let c = candidate q n hq hn r a number whole g' m' in h c.0 c.1 c.2 c.3 (subst (λ v. ComesBefore v p) c.4 l);
-  }
 
   module _ (n : ℕ) (n_some : 0 < n) where
     same_key : (a b : Block) (p p' : Key) → a.n ≡ pos n → b.n ≡ pos n → IsKey unit members n a p → IsKey unit members n b p' → (p ≡ p') ↔ ((g : Map) × IsElement unit members g × (key_of unit n (carried g a) ≡ key_of unit n b))

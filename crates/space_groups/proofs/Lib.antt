@@ -10,6 +10,9 @@ pub mod RowSizes
 pub mod Regions
 pub mod Generic
 pub mod Keys
+pub mod FirstCell
+pub mod Intervals
+pub mod KeyCandidates
 -- site-symmetry groups and orbits
 pub mod Sites
 pub mod Orbits
@@ -19,13 +22,22 @@ pub mod OrbitLists
 pub mod Divided
 pub mod Laws
 -- the theorem: the rows of a finished search are the table
+pub mod Growing
 pub mod Rows
 pub mod PointKeys
 pub mod TableOfKept
 pub mod Ordered
 pub mod FinishedSearch
 pub mod Theorem
+-- changes of coordinates
+pub mod Changes
+pub mod ChangedGroups
+pub mod ChangedLists
+pub mod ChangedCells
+pub mod CellTests
 mod OneOperator
--- for the search to come: nothing cites these two yet, nor what the heads of Keys, PointKeys and CarriedLists name
-pub mod Growing
+-- which elements a search has to try
 pub mod NearOrigin
+pub mod ShiftSizes
+pub mod Grown
+pub mod Tries

@@ -1,17 +1,16 @@
 -- A set moved by the whole part of its average's translation has small shifts.
 -- For the search to come: how far it has to look.
-use Rattle.std.proofs.Common.{◌≡◌, ◌++◌, ◌∷◌, ℕ, ◌+◌, ◌*◌, ◌<◌, ◌≤◌, ℤ, pos, ◌+ℤ◌, ◌*ℤ◌, neg_ℤ, unsigned_abs, ap, ap₂, sym, ◌∙◌, arith, mul-le-mul, le_refl}
+use Rattle.std.proofs.Common.{◌≡◌, ◌++◌, ◌∷◌, ℕ, ◌*◌, ◌<◌, ◌≤◌, ℤ, pos, ◌+ℤ◌, ◌*ℤ◌, neg_ℤ, unsigned_abs, ap, ap₂, sym, ◌∙◌, arith, mul-le-mul, le_refl}
 use Rattle.std.proofs.lemmas.Int.{ints, unsigned_abs-mul}
 use native.Mathlib.Nat.{le_of_mul-le-mul_left}
 use Rattle.lattice_algebra.specs.Matrix.{Matrix, Column, entries, coordinates, ◌·ᶜ◌, ◌+ᶜ◌, neg_column, times, origin}
 use Rattle.lattice_algebra.specs.Operator.{HasEntriesWithin, AreParts, AreWithin, IsPart}
-use Rattle.lattice_algebra.specs.Map.{Map}
 use Rattle.lattice_algebra.proofs.Ring.{var, ◌⊗◌}
 use Rattle.lattice_algebra.proofs.MatrixRing.{matrix_at, column_at, ◌·ˢᶜ◌, ◌+ˢᶜ◌, sym_times, sym_neg, sym_origin, column_ring}
 use Rattle.lattice_algebra.proofs.Numbers.{abs_sub}
 use Rattle.space_groups.proofs.RowSizes.{row_size}
 use Rattle.space_groups.specs.Averages.{Block, block_times, block_scaled}
-use Rattle.space_groups.specs.Regions.{Sizes, IsNear, IsInBox, IsReach, IsRowWithin, shift_by}
+use Rattle.space_groups.specs.Regions.{shift_by}
 use Rattle.space_groups.specs.Keys.{carried}
 use Rattle.space_groups.proofs.Keys.{shifted_block, carried_shift}
 use Rattle.space_groups.proofs.Blocks.{translation_part}
@@ -59,9 +58,6 @@ near_row unit n m0 m1 m2 r0 r1 r2 r t h e m p0 p1 p2 p =
         let l : n * unsigned_abs t ≤ n * (b * 7) = omega (arith, abs_sub (pos n *ℤ r) row, row_size m0 m1 m2 r0 r1 r2 b b b s0 s1 s2) in
         le_of_mul-le-mul_left l h
 
-abbrev pub sevens : Sizes
-sevens = record { x = 7; y = 7; z = 7 }
-
 moved_translation : (unit n : ℕ) (a : Block) (f r : Column) → a.n ≡ pos n → block_times a a ≡ block_scaled a.n a → a.t ≡ times (pos unit *ℤ pos n) f +ᶜ r → times (pos n) (carried (shift_by unit (neg_column f)) a).t ≡ times (pos n) r +ᶜ neg_column (a.m ·ᶜ r)
 unfolding shifted_block
 moved_translation unit n a f r number two split =
@@ -70,35 +66,18 @@ moved_translation unit n a f r number two split =
     ∙ near_form a.m f r (pos n) (pos unit)
     ∙ ap (λ v. times (pos n) r +ᶜ neg_column (a.m ·ᶜ r) +ᶜ v) (ap (λ v. a.m ·ᶜ v) (sym split) ∙ translation_part a two) ∙ no_more (times (pos n) r +ᶜ neg_column (a.m ·ᶜ r))
 
-rows : (unit n : ℕ) (h : 0 < n) (m : Matrix) (r t : Column) → HasEntriesWithin (n * 2) m → AreParts (unit * n) r → times (pos n) t ≡ times (pos n) r +ᶜ neg_column (m ·ᶜ r) → IsNear unit sevens (record { n = t; d = n; some = h })
+rows : (unit n : ℕ) → 0 < n → (m : Matrix) (r t : Column) → HasEntriesWithin (n * 2) m → AreParts (unit * n) r → times (pos n) t ≡ times (pos n) r +ᶜ neg_column (m ·ᶜ r) → AreWithin (unit * n * 7) t.x t.y t.z
 unfolding ◌·ᶜ◌ ◌+ᶜ◌ times neg_column
 rows unit n h m r t w p e = record {
-  x = near_row unit n m.xx m.xy m.xz r.x r.y r.z r.x t.x h (ap (λ (c : Column). c.x) e) w.x p.x p.y p.z p.x;
-  y = near_row unit n m.yx m.yy m.yz r.x r.y r.z r.y t.y h (ap (λ (c : Column). c.y) e) w.y p.x p.y p.z p.y;
-  z = near_row unit n m.zx m.zy m.zz r.x r.y r.z r.z t.z h (ap (λ (c : Column). c.z) e) w.z p.x p.y p.z p.z;
+  first = near_row unit n m.xx m.xy m.xz r.x r.y r.z r.x t.x h (ap (λ (c : Column). c.x) e) w.x p.x p.y p.z p.x;
+  second = near_row unit n m.yx m.yy m.yz r.x r.y r.z r.y t.y h (ap (λ (c : Column). c.y) e) w.y p.x p.y p.z p.y;
+  third = near_row unit n m.zx m.zy m.zz r.x r.y r.z r.z t.z h (ap (λ (c : Column). c.z) e) w.z p.x p.y p.z p.z;
 }
 
--- the translation of the moved average, as a point, has coordinates up to 7
-pub near_origin : (unit n : ℕ) (h : 0 < n) (a : Block) (f r : Column) → a.n ≡ pos n → block_times a a ≡ block_scaled a.n a → HasEntriesWithin (n * 2) a.m → a.t ≡ times (pos unit *ℤ pos n) f +ᶜ r → AreParts (unit * n) r
-    → IsNear unit sevens (record { n = (carried (shift_by unit (neg_column f)) a).t; d = n; some = h })
+-- the translation of the moved average is at most 7 cells
+pub near_origin : (unit n : ℕ) → 0 < n → (a : Block) (f r : Column) → a.n ≡ pos n → block_times a a ≡ block_scaled a.n a → HasEntriesWithin (n * 2) a.m → a.t ≡ times (pos unit *ℤ pos n) f +ᶜ r → AreParts (unit * n) r
+    → (let t = (carried (shift_by unit (neg_column f)) a).t in AreWithin (unit * n * 7) t.x t.y t.z)
 near_origin unit n h a f r number two m split parts =
     let b = carried (shift_by unit (neg_column f)) a in
     let t = moved_translation unit n a f r number two split in
     rows unit n h a.m r b.t m parts t
-
--- an element that fixes a point with coordinates up to 7 has whole shifts up to 49
-pub shifts_small : (unit : ℕ) (e : Map) (b : IsInBox unit sevens e) → HasEntriesWithin 2 e.w → AreWithin 49 b.shift.x b.shift.y b.shift.z
-shifts_small unit e b w = record { first = row e.w.xx e.w.xy e.w.xz b.shift.x w.x b.x; second = row e.w.yx e.w.yy e.w.yz b.shift.y w.y b.y; third = row e.w.zx e.w.zy e.w.zz b.shift.z w.z b.z }
-  where
-    row : (w0 w1 w2 k : ℤ) → AreWithin 2 w0 w1 w2 → unsigned_abs k ≤ 7 + (unsigned_abs w0 * 7 + unsigned_abs w1 * 7 + unsigned_abs w2 * 7) → unsigned_abs k ≤ 49
-    row w0 w1 w2 k w h = omega (arith, w.first, w.second, w.third)
-
--- so the box of a set near the origin is small: with a common denominator q each coordinate reaches at most 6 q + 7
-pub reach_is : (unit q n : ℕ) (h : 0 < n) (a : Block) → HasEntriesWithin (n * 2) a.m → IsNear unit sevens (record { n = a.t; d = n; some = h }) → IsReach unit q n (record { x = 6 * q + 7; y = 6 * q + 7; z = 6 * q + 7 }) a
-reach_is unit q n h a w t = record { x = row a.m.xx a.m.xy a.m.xz a.t.x w.x t.x; y = row a.m.yx a.m.yy a.m.yz a.t.y w.y t.y; z = row a.m.zx a.m.zy a.m.zz a.t.z w.z t.z }
-  where
-    row : (a b c t : ℤ) → AreWithin (n * 2) a b c → unsigned_abs t ≤ unit * n * 7 → IsRowWithin unit q n (6 * q + 7) a b c t
-    row a b c t w h =
-        let s : unsigned_abs a + unsigned_abs b + unsigned_abs c ≤ n * 6 = omega (arith, w.first, w.second, w.third) in
-        let m : unit * q * (unsigned_abs a + unsigned_abs b + unsigned_abs c) ≤ unit * q * (n * 6) = mul-le-mul (le_refl (unit * q)) s in
-        omega arith

@@ -132,7 +132,7 @@ module _ (unit : ℕ) (some : 0 < unit) where
       omega (arith, le, has_one)
 
   abbrev the_set : Kept
-  the_set = record { set = alone; average = whole_space; key = the_key; mult = 1; denominator = 1; whole = identity; size = record { x = 1; y = 1; z = 1 } }
+  the_set = record { set = alone; average = whole_space; key = the_key; mult = 1 }
 
   set_kept : IsKept unit only the_set
   set_kept = record {
@@ -140,13 +140,10 @@ module _ (unit : ℕ) (some : 0 < unit) where
     mean = alone_mean;
     key = alone_key;
     mult = full_length;
-    some = omega arith;
-    whole = refl;
-    reach = record { x = omega arith; y = omega arith; z = omega arith };
   }
 
   set_done : IsDone unit only (the_set ∷ []) the_set
-  set_done e m box y h f =
+  set_done e m y h f =
       let i = is_identity e y m f in (
         the_set,
         lists.Contains-here the_set [],

@@ -6,7 +6,7 @@ use Rattle.std.proofs.lemmas.List.{length-map}
 use Rattle.std.proofs.lemmas.List.Elements.{All-contains}
 use Rattle.std.proofs.lemmas.Map.Made.{IsDistinct-from_AllPairs}
 use Rattle.lattice_algebra.specs.Point.{Point, IsPoint, ◌≈◌, image}
-use Rattle.lattice_algebra.specs.Map.{Map, ◌∘◌, undo}
+use Rattle.lattice_algebra.specs.Map.{Map, ◌∘◌, identity_map, undo}
 use Rattle.lattice_algebra.proofs.Maps.{map_eq, map_eq-is}
 use Rattle.lattice_algebra.proofs.Points.{≈_trans, IsPoint-image}
 use Rattle.lattice_algebra.proofs.Numbers.{above}
@@ -16,10 +16,10 @@ use Rattle.finite_groups.proofs.Totals.{total-same}
 use Rattle.finite_groups.proofs.Conjugates as conjugates
 use Rattle.space_groups.specs.Space.{IsElement, ScaledPoint, moved, point_of}
 use Rattle.space_groups.specs.Averages.{IsInImage, Block, block_of, block_scaled, sum_of, IsMean}
-use Rattle.space_groups.specs.Keys.{carried, Key, key_of, ComesBefore}
+use Rattle.space_groups.specs.Keys.{carried, Key, key_of, IsKey, ComesBefore}
 use Rattle.space_groups.specs.Rows.{row_point, Fits, IsSpecial, IsPointKey}
 use Rattle.space_groups.specs.Lists.{IsOrbitList}
-use Rattle.space_groups.proofs.ScaledPoints.{moved-∘}
+use Rattle.space_groups.proofs.ScaledPoints.{moved-∘, moved-identity}
 use Rattle.space_groups.proofs.Blocks.{block_sums, cancel_block}
 use Rattle.space_groups.proofs.Elements.{SpaceGroup, space, on_points}
 use Rattle.space_groups.proofs.Means as means
@@ -48,7 +48,7 @@ module _ (L : SpaceGroup) where
       subst (IsMean (length members) (site L y)) (mean_once (length members) (site L y) s.site m.0 a (site_distinct L y) (IsDistinct-from_AllPairs map_eq-is s.site s.is_site.once) same (omega (arith, (site_closed L y).has_one.1)) m.1 s.mean) m.1
 
   -- where the group of y is fs, that of h y is h fs h^-1
-  turned_site : (h : Map) (y : ScaledPoint) (fs : List Map) → IsElement unit members h → ((e : Map) → Contains (site L y) e ↔ Contains fs e) → (e : Map) → Contains (map (turned h) fs) e ↔ Contains (site L (moved h y)) e
+  pub turned_site : (h : Map) (y : ScaledPoint) (fs : List Map) → IsElement unit members h → ((e : Map) → Contains (site L y) e ↔ Contains fs e) → (e : Map) → Contains (map (turned h) fs) e ↔ Contains (site L (moved h y)) e
   turned_site h y fs m same e = (
     (λ c.
         let r = lists.Contains-from_map (turned h) e fs c in
@@ -60,11 +60,45 @@ module _ (L : SpaceGroup) where
   )
 
   -- the average of the group of h y is the carried average of the group of y
-  special_moved : (h : Map) (y : ScaledPoint) (fs : List Map) (a b : Block) → IsElement unit members h → ((e : Map) → Contains (site L y) e ↔ Contains fs e) → IsClosedList (space L) fs → IsMean (length members) fs a → IsMean (length members) (site L (moved h y)) b → carried h a ≡ b
+  pub special_moved : (h : Map) (y : ScaledPoint) (fs : List Map) (a b : Block) → IsElement unit members h → ((e : Map) → Contains (site L y) e ↔ Contains fs e) → IsClosedList (space L) fs → IsMean (length members) fs a → IsMean (length members) (site L (moved h y)) b → carried h a ≡ b
   special_moved h y fs a b m same c p q =
       mean_once (length members) (map (turned h) fs) (site L (moved h y)) (carried h a) b
       (turned_distinct L h fs m (λ e d. All-contains (IsElement unit members) fs e c.valid d) c.distinct)
       (site_distinct L (moved h y)) (turned_site h y fs m same) (omega (arith, c.has_one.1, length-map fs (turned h))) (carried_mean h (length members) fs a p) q
+
+  -- where the group of some image of x is fs, the key of the average of fs is the key of x
+  pub point_key : (x : Point) (y : ScaledPoint) → IsPoint x → x ≈ point_of unit y → (g : Map) → IsElement unit members g → (fs : List Map) → IsClosedList (space L) fs → ((e : Map) → Contains (site L (moved g y)) e ↔ Contains fs e)
+      → (avg : Block) → IsMean (length members) fs avg → (q : Key) → IsKey unit members (length members) avg q → IsPointKey unit members x q
+  point_key x y p e g n fs closed same avg mean q key =
+      let z : ScaledPoint = moved g y in
+      let i : IsElement unit members (undo g) = (space L).inv_in g n in
+      -- the average of the group of the image by h
+      let at : (h : Map) (b : Block) → IsElement unit members h → IsSpecial unit members (image unit h x) b → carried (h ∘ undo g) avg ≡ b =
+      λ h b m s.
+      let there : moved (h ∘ undo g) z ≡ moved h y = moved-∘ h (undo g) z ∙ ap (moved h) (conjugates.act_back (space L) (on_points L) g y n) in
+      special_moved (h ∘ undo g) z fs avg b ((space L).mul_in h (undo g) m i) same closed mean
+      (subst (λ v. IsMean (length members) (site L v) b) (sym there) (special_is (image unit h x) (moved h y) b (IsPoint-image unit some h x p) (image_of L x y h e) s)) in
+      let h : Map = key.by ∘ g in
+      let m : IsElement unit members h = (space L).mul_in key.by g key.element n in
+      let b = mean_exists L (site L (moved h y)) (site_closed L (moved h y)) in
+      let s : IsSpecial unit members (image unit h x) b.0 = record { site = site L (moved h y); is_site = site_list L (image unit h x) (moved h y) (IsPoint-image unit some h x p) (image_of L x y h e); mean = b.1 } in
+      let here : carried key.by avg ≡ b.0 = special_moved key.by z fs avg b.0 key.element same closed mean (subst (λ v. IsMean (length members) (site L v) b.0) (moved-∘ key.by g y) b.1) in
+      record {
+        by = h;
+        element = m;
+        special = b.0;
+        is_special = s;
+        gives = ap (key_of unit (length members)) (sym here) ∙ key.gives;
+        first = λ h' b' m' s' l. key.first (h' ∘ undo g) ((space L).mul_in h' (undo g) m' i) (subst (λ v. ComesBefore (key_of unit (length members) v) q) (sym (at h' b' m' s')) l);
+      }
+
+  -- so the key of the special-position operator of a point is the key of the point
+  pub special_key : (x : Point) (a : Block) (q : Key) → IsPoint x → IsSpecial unit members x a → IsKey unit members (length members) a q → IsPointKey unit members x q
+  special_key x a q p s k =
+      let y = scaled_of unit some x p in
+      let z : ScaledPoint = moved identity_map y.0 in
+      point_key x y.0 p y.1 identity_map (space L).one_in (site L z) (site_closed L z) (λ e. ((λ c. c), (λ c. c))) a
+      (subst (λ v. IsMean (length members) (site L v) a) (sym (moved-identity y.0)) (special_is x y.0 a p y.1 s)) q k
 
   module _ {K : Type 0} (kept : AreKept L K) where
     -- the key of a row is the key of each point that fits it
@@ -72,29 +106,7 @@ module _ (L : SpaceGroup) where
     key_of_point k x y p e f =
         let g = has_group kept k y f in
         let o = full_of L (kept.set k) in
-        let z : ScaledPoint = moved g.0 y in
-        let i : IsElement unit members (undo g.0) = (space L).inv_in g.0 g.1 in
-        let avg = o.average in
-        let key = kept.is_key k in
-        -- the average of the group of the image by h
-        let at : (h : Map) (b : Block) → IsElement unit members h → IsSpecial unit members (image unit h x) b → carried (h ∘ undo g.0) avg ≡ b =
-        λ h b m s.
-        let there : moved (h ∘ undo g.0) z ≡ moved h y = moved-∘ h (undo g.0) z ∙ ap (moved h) (conjugates.act_back (space L) (on_points L) g.0 y g.1) in
-        special_moved (h ∘ undo g.0) z _ avg b ((space L).mul_in h (undo g.0) m i) g.2 o.closed o.is_mean
-        (subst (λ v. IsMean (length members) (site L v) b) (sym there) (special_is (image unit h x) (moved h y) b (IsPoint-image unit some h x p) (image_of L x y h e) s)) in
-        let h : Map = key.by ∘ g.0 in
-        let m : IsElement unit members h = (space L).mul_in key.by g.0 key.element g.1 in
-        let b = mean_exists L (site L (moved h y)) (site_closed L (moved h y)) in
-        let s : IsSpecial unit members (image unit h x) b.0 = record { site = site L (moved h y); is_site = site_list L (image unit h x) (moved h y) (IsPoint-image unit some h x p) (image_of L x y h e); mean = b.1 } in
-        let same : carried key.by avg ≡ b.0 = special_moved key.by z _ avg b.0 key.element g.2 o.closed o.is_mean (subst (λ v. IsMean (length members) (site L v) b.0) (moved-∘ key.by g.0 y) b.1) in
-        record {
-          by = h;
-          element = m;
-          special = b.0;
-          is_special = s;
-          gives = ap (key_of unit (length members)) (sym same) ∙ key.gives;
-          first = λ h' b' m' s' l. key.first (h' ∘ undo g.0) ((space L).mul_in h' (undo g.0) m' i) (subst (λ v. ComesBefore (key_of unit (length members) v) (kept.key k)) (sym (at h' b' m' s')) l);
-        }
+        point_key x y p e g.0 g.1 _ o.closed g.2 o.average o.is_mean (kept.key k) (kept.is_key k)
 
   -- a point fits the row of its own key and number of images: so the row of a point is found by its key
   pub fits_own_key : (x : Point) (p : Key) (list : List Point) → IsPoint x → IsPointKey unit members x p → IsOrbitList unit members x list → Fits unit members (record { mult = length list; key = p }) x

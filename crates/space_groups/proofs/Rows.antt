@@ -16,7 +16,7 @@ use Rattle.finite_groups.proofs.Conjugates as conjugates
 use Rattle.finite_groups.proofs.Table as table
 use Rattle.space_groups.specs.Space.{IsElement, ScaledPoint, moved, point_of}
 use Rattle.space_groups.specs.Averages.{Block, Vector, block_times, block_scaled, block_on, vector_scaled, IsInImage}
-use Rattle.space_groups.specs.Regions.{IsInBox, shift_by}
+use Rattle.space_groups.specs.Regions.{shift_by}
 use Rattle.space_groups.specs.Keys.{carried, Key, key_of, IsKey}
 use Rattle.space_groups.specs.Rows.{Lies, row_point}
 use Rattle.space_groups.specs.Search.{FixAll, IsFull}
@@ -25,7 +25,7 @@ use Rattle.space_groups.proofs.Elements.{SpaceGroup, space, on_points}
 use Rattle.space_groups.proofs.Means as means
 use Rattle.space_groups.proofs.Means.{Averaged, vec, on_image}
 use Rattle.space_groups.proofs.Carried.{carried-number, image_carried, image_carried_back, carried_idempotent}
-use Rattle.space_groups.proofs.Regions.{Box, shift_in, move_near, near_in_box}
+use Rattle.space_groups.proofs.Regions.{shift_in}
 use Rattle.space_groups.proofs.Generic.{mean_within, generic}
 use Rattle.space_groups.proofs.Keys.{same_key_same_image}
 use Rattle.space_groups.proofs.Sites.{site, sites, site_is, full, full_of, full_own}
@@ -96,7 +96,7 @@ module _ (L : SpaceGroup) where
   pub some_members : 0 < length members
   some_members = omega (arith, closed.has_one.1)
 
-  -- what the search keeps: sets closed under products, each with its average, its key, and the box in which it was grown
+  -- what the search keeps: sets closed under products, each with its average and its key
   pub record AreKept (K : Type 0) : Type 0 where
     pub narrow : AreNarrow members
     pub set : K → Averaged L (length members)
@@ -104,12 +104,11 @@ module _ (L : SpaceGroup) where
     pub is_key : (k : K) → IsKey unit members (length members) (set k).average (key k)
     pub mult : K → ℕ
     pub is_mult : (k : K) (list : List Map) → IsFull unit members (set k).average list → length list * mult k ≡ length members
-    pub box : (k : K) → Box unit (length members) (set k).average
     -- the set of the identity alone is kept, and no two keys are the same
     pub trivial : (k : K) × ((set k).list ≡ identity_map ∷ [])
     pub apart : (j k : K) → key j ≡ key k → j ≡ k
-    -- the set that a kept set and an element in its box generate has its key among the kept ones, where some point is fixed by all
-    pub grown : (k : K) (e : Map) → IsElement unit members e → IsInBox unit (box k).size e → (y : ScaledPoint) → FixAll (set k).list y → moved e y ≡ y
+    -- the set that a kept set and an element generate has its key among the kept ones, where some point is fixed by all
+    pub grown : (k : K) (e : Map) → IsElement unit members e → (y : ScaledPoint) → FixAll (set k).list y → moved e y ≡ y
         → (t : K) × (m : Averaged L (length members)) × ((z : ScaledPoint) → FixAll m.list z ↔ (FixAll (set k).list z × (moved e z ≡ z))) × IsKey unit members (length members) m.average (key t)
 
   -- the full list of an average is full
@@ -157,7 +156,7 @@ module _ (L : SpaceGroup) where
 
 module _ {L : SpaceGroup} {K : Type 0} (kept : AreKept L K) where
   open L use {unit, some, members, closed}
-  open kept use {narrow, set, key, is_key, mult, is_mult, box, trivial, apart, grown}
+  open kept use {narrow, set, key, is_key, mult, is_mult, trivial, apart, grown}
 
   -- the elements that fix all of the image
   abbrev pub all_of : K → List Map
@@ -188,25 +187,18 @@ module _ {L : SpaceGroup} {K : Type 0} (kept : AreKept L K) where
   }
 
   pub rows_grow : table.Grows (space L) (on_points L) K InK all_of
-  rows_grow k y i =
-      let near = move_near unit (length members) (set k).average (box k) y some (set k).some (means.number (set k)) (means.idempotent_itself (set k)) i in
-      let s : Map = shift_by unit near.0 in (
-        s,
-        shift_in L near.0,
-        near.1,
-        λ e inside fix.
-            let g = grown k e inside (near_in_box unit (box k).size e (moved s y) some near.2 fix) (moved s y) ((fixed_by k (moved s y)).0 near.1) fix in
-            let t = g.0 in
-            let m = g.1 in
-            let h = (same_key_same_image L (full_of L m) (full_of L (set t)) (key t) (key t) (full_own L m) (full_own L (set t)) g.3 (is_key t)).0 refl in (
-              t,
-              h.0,
-              h.1,
-              λ z. (
-                (λ p. (h.2 z).0 (means.fixed_image m z ((g.2 z).1 ((fixed_by k z).0 p.0, p.1)))),
-                (λ q. let r = (g.2 z).0 (λ e c. means.image_fixed m z ((h.2 z).1 q) e c) in ((fixed_by k z).1 r.0, r.1)),
-              ),
-            ),
+  rows_grow k y i e inside fix =
+      let g = grown k e inside y ((fixed_by k y).0 i) fix in
+      let t = g.0 in
+      let m = g.1 in
+      let h = (same_key_same_image L (full_of L m) (full_of L (set t)) (key t) (key t) (full_own L m) (full_own L (set t)) g.3 (is_key t)).0 refl in (
+        t,
+        h.0,
+        h.1,
+        λ z. (
+          (λ p. (h.2 z).0 (means.fixed_image m z ((g.2 z).1 ((fixed_by k z).0 p.0, p.1)))),
+          (λ q. let r = (g.2 z).0 (λ e c. means.image_fixed m z ((h.2 z).1 q) e c) in ((fixed_by k z).1 r.0, r.1)),
+        ),
       )
 
   -- ---- rows and images

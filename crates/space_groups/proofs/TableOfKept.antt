@@ -21,7 +21,7 @@ lies_same : (unit n : ℕ) (p : Key) (x y : Point) → IsPoint x → y ≈ x →
 lies_same unit n p x y h e l = record { at = l.at; is_point = l.is_point; whole = l.whole; equal = ≈_trans y x (row_point unit n p l.at l.whole) h e l.equal }
 
 -- a point has one key
-point_key_once : (unit : ℕ) (members : List Operator) (x : Point) (p q : Key) → IsPointKey unit members x p → IsPointKey unit members x q → p ≡ q
+pub point_key_once : (unit : ℕ) (members : List Operator) (x : Point) (p q : Key) → IsPointKey unit members x p → IsPointKey unit members x q → p ≡ q
 point_key_once unit members x p q f g = one_of p q
     (λ l. g.first f.by f.special f.element f.is_special (subst (λ v. ComesBefore v q) (sym f.gives) l))
     (λ l. f.first g.by g.special g.element g.is_special (subst (λ v. ComesBefore v p) (sym g.gives) l))

@@ -2,6 +2,9 @@ pub mod Space
 pub mod Lists
 pub mod Averages
 pub mod Regions
+pub mod Intervals
 pub mod Keys
 pub mod Rows
 pub mod Search
+pub mod Tries
+pub mod Bases

@@ -1,11 +1,9 @@
 -- What a search for the rows of the table keeps, and when it is done. This project's own.
-use Rattle.std.specs.Prelude.{◌≡◌, ℕ, ◌*◌, ◌<◌, ◌≢◌, ◌↔◌, List, [], ◌∷◌, length, All, AllPairs, Contains}
-use Rattle.lattice_algebra.specs.Matrix.{Matrix}
+use Rattle.std.specs.Prelude.{◌≡◌, ℕ, ◌*◌, ◌≢◌, ◌↔◌, List, [], ◌∷◌, length, All, AllPairs, Contains}
 use Rattle.lattice_algebra.specs.Operator.{Operator}
 use Rattle.lattice_algebra.specs.Map.{Map, ◌∘◌, identity_map}
 use Rattle.space_groups.specs.Space.{IsElement, ScaledPoint, moved}
 use Rattle.space_groups.specs.Averages.{Block, IsMean, IsInImage}
-use Rattle.space_groups.specs.Regions.{Sizes, IsWhole, IsReach, IsInBox}
 use Rattle.space_groups.specs.Keys.{Key, IsKey}
 use Rattle.space_groups.specs.Rows.{Row, IsRowBefore}
 
@@ -25,26 +23,20 @@ pub record IsFull (unit : ℕ) (members : List Operator) (a : Block) (list : Lis
   pub exactly : (e : Map) → Contains list e ↔ (IsElement unit members e × ((y : ScaledPoint) → IsInImage a y → moved e y ≡ y))
   pub once : AllPairs (λ e f. e ≢ f) list
 
--- a kept set, its average, its key and its number of points, and the box in which it is grown
+-- a kept set, its average, its key and its number of points
 pub record Kept : Type 0 where
   pub set : List Map
   pub average : Block
   pub key : Key
   pub mult : ℕ
-  pub denominator : ℕ
-  pub whole : Matrix
-  pub size : Sizes
 
 -- the set is a group with this average and this key; mult times the number of elements that fix the whole image is the number of
--- members; the denominator and the sizes are those of the average
+-- members
 pub record IsKept (unit : ℕ) (members : List Operator) (k : Kept) : Type 0 where
   pub sub : IsSub unit members k.set
   pub mean : IsMean (length members) k.set k.average
   pub key : IsKey unit members (length members) k.average k.key
   pub mult : (list : List Map) → IsFull unit members k.average list → length list * k.mult ≡ length members
-  pub some : 0 < k.denominator
-  pub whole : IsWhole k.denominator k.whole k.average
-  pub reach : IsReach unit k.denominator (length members) k.size k.average
 
 -- k and e generate a group with the key p: it fixes exactly what the set of k and e fix
 pub record IsGrown (unit : ℕ) (members : List Operator) (k : Kept) (e : Map) (p : Key) : Type 0 where
@@ -55,9 +47,13 @@ pub record IsGrown (unit : ℕ) (members : List Operator) (k : Kept) (e : Map) (
   pub mean : IsMean (length members) list average
   pub key : IsKey unit members (length members) average p
 
--- whatever k and an element in its box generate has its key among the kept ones, where some point is fixed by all
+-- what k and e generate has its key among the kept ones
+abbrev pub HasKeptKey : ℕ → List Operator → List Kept → Kept → Map → Type 0
+HasKeptKey unit members kept k e = (t : Kept) × Contains kept t × IsGrown unit members k e t.key
+
+-- so it is for k and each element e that fixes some point with it
 abbrev pub IsDone : ℕ → List Operator → List Kept → Kept → Type 0
-IsDone unit members kept k = (e : Map) → IsElement unit members e → IsInBox unit k.size e → (y : ScaledPoint) → FixAll k.set y → moved e y ≡ y → (t : Kept) × Contains kept t × IsGrown unit members k e t.key
+IsDone unit members kept k = (e : Map) → IsElement unit members e → (y : ScaledPoint) → FixAll k.set y → moved e y ≡ y → HasKeptKey unit members kept k e
 
 -- what the row of a kept set shows
 abbrev pub row_of : Kept → Row

@@ -1,7 +1,8 @@
-//! The space group of a list of operators: site-symmetry groups, orbits, averages and the table of Wyckoff positions.
-//! International Tables A.
+//! The space group of a list of operators: site-symmetry groups, orbits, averages and the table of Wyckoff positions; and the
+//! space group that a change of coordinates makes of another. International Tables A.
 //!
 //! Definitions and laws alone, for any number of parts of a cell and every rational point. Those of site-symmetry groups,
-//! orbits and conjugate points stand behind contracts of `site_symmetry` and `orbit_map`. The others are lemmas until a crate
-//! with code cites them: above all, that the rows which a finished search leaves are a table of Wyckoff positions.
+//! orbits and conjugate points stand behind contracts of `site_symmetry` and `orbit_map`, those of changes of coordinates
+//! behind contracts of `basis_change`. The others are lemmas until a crate with code cites them: above all, that the rows
+//! which a finished search leaves are a table of Wyckoff positions.
 #![tactic(auto)]
