@@ -1,0 +1,21 @@
+mod Standing
+mod Lists
+mod Visiting
+mod Ordering
+pub mod Finishing
+mod Growing
+mod Meeting
+mod NearFull
+mod Beginning
+mod Covering
+mod Pushing
+mod OpenEnds
+mod Ranging
+mod Pushed
+mod Quotients
+mod Columns
+mod RangeSizes
+mod RowOfPoint
+mod PlaceOfRow
+mod RangeEnds
+mod SpanningColumns

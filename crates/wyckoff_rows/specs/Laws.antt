@@ -1,0 +1,20 @@
+-- What the laws about tables speak of.
+use Rattle.std.specs.Prelude.{◌≡◌, ℕ, List}
+use Rattle.lattice_algebra.specs.Operator.{Operator}
+use Rattle.lattice_algebra.specs.Point.{Point}
+use Rattle.exact_ops.specs.declared.TheConstants.{UNIT}
+use Rattle.space_groups.specs.Rows.{Row, Fits, IsAt}
+
+-- x fits the row at place k, and none at another place
+pub record IsOnlyPlaceOf (members : List Operator) (rows : List Row) (x : Point) (k : ℕ) : Type 0 where
+  pub row : Row
+  pub at : IsAt rows k row
+  pub fits : Fits UNIT members row x
+  pub only : (j : ℕ) (other : Row) → IsAt rows j other → Fits UNIT members other x → j ≡ k
+
+-- x and y fit the row at place k
+pub record IsPlaceOfBoth (members : List Operator) (rows : List Row) (x y : Point) (k : ℕ) : Type 0 where
+  pub row : Row
+  pub at : IsAt rows k row
+  pub fits : Fits UNIT members row x
+  pub fits_too : Fits UNIT members row y

@@ -1,0 +1,24 @@
+//! The table of Wyckoff positions of a group. International Tables A; the rows, their keys and their order are this project's
+//! own.
+//!
+//! Proved: `rows` is the table, for every group: every rational point fits exactly one row, every row fits some point, points
+//! of one row are conjugate and conversely, and a row's number of points is that of the orbit of each of its points in a cell;
+//! it is also the one row list, which the group determines. `fit` gives the place of the one row that a point fits.
+//!
+//! The rows are found by a search over finite groups of elements of the space group. Each group that is kept is grown by
+//! elements that fix some point of its fixed points; what it grows to is kept where its key is new.
+#![tactic(auto)]
+
+mod candidates;
+mod entry;
+mod fitting;
+mod keeping;
+pub mod laws;
+pub mod parts;
+mod ranges;
+mod spans;
+mod table;
+
+pub use fitting::fit;
+pub use parts::Row;
+pub use table::rows;
