@@ -1,0 +1,11 @@
+pub mod Sizes
+pub mod Steps
+pub mod Frames
+pub mod Quotients
+pub mod Generators
+pub mod ChangedGroup
+pub mod Reflections
+pub mod Indices
+pub mod ChangedPoints
+pub mod Decided
+pub mod Existence

@@ -1,0 +1,6 @@
+use Rattle.std.proofs.Common.{All, take}
+use Rattle.basis_change.specs.Frames.{change_in, generators, HasMap}
+use Rattle.basis_change.proofs.elements.are_in_parts.Given as goal
+
+abbrev pub invariant-loop-i : goal.invariant-loop-i
+invariant-loop-i l = All (HasMap (change_in l.frame)) (take l.i (generators l.group))

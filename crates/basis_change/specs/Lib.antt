@@ -1,0 +1,4 @@
+pub mod Wide
+pub mod Frames
+pub mod Laws
+pub mod Changes
