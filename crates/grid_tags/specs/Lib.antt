@@ -1,0 +1,4 @@
+pub mod Grids
+pub mod GridLists
+pub mod Walks
+pub mod Steps
