@@ -13,7 +13,7 @@ mod sink;
 mod source;
 mod std_streams;
 
-pub use memory::{MemSink, MemSource, NoFailSink, NoFailSource, NoIoMemory};
+pub use memory::{MemSink, MemSource, NoFailSink, NoFailSource, NoIoMemory, RepeatSource};
 pub use sink::{Sink, SinkStop, put_all};
 pub use source::{Failed, ReadStop, Source, read_all};
 pub use std_streams::{StdSink, StdSource};

@@ -28,22 +28,31 @@ pub trait Sink {
         ensures none { IfOk result (λ count. (count ≡ 0) ↔ (piece.now ≡ [])) }
         ensures faults_later { seen.faults self.old ≤ seen.faults self.new }
         ensures wants_later { seen.wants self.old ≤ seen.wants self.new }
-        ensures failed { IsErrOf result SinkStop.Failed → Rose (seen.faults self.old) (seen.faults self.new) }
-        ensures no_memory { IsErrOf result SinkStop.NoMemory → Rose (seen.wants self.old) (seen.wants self.new) }
-        ensures unfailed { result ≢ Err SinkStop.Failed → seen.faults self.new ≡ seen.faults self.old }
-        ensures unwanted { result ≢ Err SinkStop.NoMemory → seen.wants self.new ≡ seen.wants self.old };
+        ensures failed { IsErrOf result SinkStop.Failed
+            → Rose (seen.faults self.old) (seen.faults self.new) }
+        ensures no_memory { IsErrOf result SinkStop.NoMemory
+            → Rose (seen.wants self.old) (seen.wants self.new) }
+        ensures unfailed { result ≢ Err SinkStop.Failed
+            → seen.faults self.new ≡ seen.faults self.old }
+        ensures unwanted { result ≢ Err SinkStop.NoMemory
+            → seen.wants self.new ≡ seen.wants self.old };
 }
 
 /// Writes all the bytes, in as many calls as it takes. After an Err the sink has taken a prefix of them.
 pub fn put_all<K: Sink>(sink: &mut K, bytes: &[u8]) -> Result<(), SinkStop>
     ensures ok { OnOk result (Appends (K.seen.held sink.old) (K.seen.held sink.new) bytes.now) }
-    ensures err { OnErr result (AppendsPrefix (K.seen.held sink.old) (K.seen.held sink.new) bytes.now) }
+    ensures err { OnErr result
+        (AppendsPrefix (K.seen.held sink.old) (K.seen.held sink.new) bytes.now) }
     ensures faults_later { K.seen.faults sink.old ≤ K.seen.faults sink.new }
     ensures wants_later { K.seen.wants sink.old ≤ K.seen.wants sink.new }
-    ensures failed { IsErrOf result SinkStop.Failed → Rose (K.seen.faults sink.old) (K.seen.faults sink.new) }
-    ensures no_memory { IsErrOf result SinkStop.NoMemory → Rose (K.seen.wants sink.old) (K.seen.wants sink.new) }
-    ensures unfailed { result ≢ Err SinkStop.Failed → K.seen.faults sink.new ≡ K.seen.faults sink.old }
-    ensures unwanted { result ≢ Err SinkStop.NoMemory → K.seen.wants sink.new ≡ K.seen.wants sink.old }
+    ensures failed { IsErrOf result SinkStop.Failed
+        → Rose (K.seen.faults sink.old) (K.seen.faults sink.new) }
+    ensures no_memory { IsErrOf result SinkStop.NoMemory
+        → Rose (K.seen.wants sink.old) (K.seen.wants sink.new) }
+    ensures unfailed { result ≢ Err SinkStop.Failed
+        → K.seen.faults sink.new ≡ K.seen.faults sink.old }
+    ensures unwanted { result ≢ Err SinkStop.NoMemory
+        → K.seen.wants sink.new ≡ K.seen.wants sink.old }
 {
     let mut put = 0;
     while put < bytes.len() {

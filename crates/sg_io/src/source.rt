@@ -44,12 +44,14 @@ pub enum ReadStop {
 /// Reads until the buffer is full or the input ends, and says how many bytes came.
 fn fill<S: Source>(src: &mut S, buf: &mut [u8]) -> Result<usize, Failed>
     ensures bound { ReadsAtMost result buf.new }
-    ensures bytes { IfOk result (λ count. Consumes (S.seen.left src.old) (S.seen.left src.new) (take count buf.new)) }
+    ensures bytes { IfOk result
+        (λ count. Consumes (S.seen.left src.old) (S.seen.left src.new) (take count buf.new)) }
     ensures end { IfOk result (λ count. count < length buf.new → IsAtEnd (S.seen.left src.new)) }
     ensures faults_later { S.seen.faults src.old ≤ S.seen.faults src.new }
     ensures failed { OnErr result (Rose (S.seen.faults src.old) (S.seen.faults src.new)) }
     ensures unfailed { OnOk result (S.seen.faults src.new ≡ S.seen.faults src.old) }
-    ensures taken { OnErr result (ConsumesSome (S.seen.left src.old) (S.seen.left src.new) (λ count. count < length buf.new)) }
+    ensures taken { OnErr result (ConsumesSome (S.seen.left src.old)
+        (S.seen.left src.new) (λ count. count < length buf.new)) }
 {
     let mut filled = 0;
     while filled < buf.len() {
@@ -67,13 +69,15 @@ fn add_piece<S: Source>(src: &mut S, all: &mut Vec<u8>, wanted: usize) -> Result
     requires { vec_len all.old + wanted ≤ vec_capacity all.old }
     ensures within { IfOk result (λ count. count ≤ wanted) }
     ensures added { IfOk result (λ count. vec_len all.new ≡ vec_len all.old + count) }
-    ensures bytes { IfOk result (λ count. (bytes : List ℕ) × (all.new.items ≡ all.old.items ++ bytes)
+    ensures bytes { IfOk result (λ count. (bytes : List ℕ)
+        × (all.new.items ≡ all.old.items ++ bytes)
         × Consumes (S.seen.left src.old) (S.seen.left src.new) bytes) }
     ensures end { IfOk result (λ count. count < wanted → IsAtEnd (S.seen.left src.new)) }
     ensures faults_later { S.seen.faults src.old ≤ S.seen.faults src.new }
     ensures failed { OnErr result (Rose (S.seen.faults src.old) (S.seen.faults src.new)) }
     ensures unfailed { OnOk result (S.seen.faults src.new ≡ S.seen.faults src.old) }
-    ensures taken { OnErr result (ConsumesSome (S.seen.left src.old) (S.seen.left src.new) (λ count. count < wanted)) }
+    ensures taken { OnErr result
+        (ConsumesSome (S.seen.left src.old) (S.seen.left src.new) (λ count. count < wanted)) }
     ensures capacity { vec_capacity all.old ≤ vec_capacity all.new }
 {
     let before = all.len();
@@ -85,14 +89,17 @@ fn add_piece<S: Source>(src: &mut S, all: &mut Vec<u8>, wanted: usize) -> Result
 
 /// Reads all that is left, where it is at most `limit` bytes. Room for one byte more is taken before the first read.
 pub fn read_all<S: Source>(alloc: Global, src: &mut S, limit: u32) -> Result<Vec<u8>, ReadStop>
-    ensures bytes { IfOk result (λ all. Consumes (S.seen.left src.old) (S.seen.left src.new) all.items) }
+    ensures bytes { IfOk result
+        (λ all. Consumes (S.seen.left src.old) (S.seen.left src.new) all.items) }
     ensures end { OnOk result (IsAtEnd (S.seen.left src.new)) }
     ensures within { IfOk result (λ all. length all.items ≤ limit) }
     // At most one byte beyond the limit was taken, and that one exactly where the input is too long.
     ensures too_long { ConsumesSome (S.seen.left src.old) (S.seen.left src.new) (λ count.
         (count ≤ limit + 1) × (IsErrOf result ReadStop.TooLong ↔ (count ≡ limit + 1))) }
-    ensures failed { IsErrOf result ReadStop.Failed → Rose (S.seen.faults src.old) (S.seen.faults src.new) }
-    ensures unfailed { result ≢ Err ReadStop.Failed → S.seen.faults src.new ≡ S.seen.faults src.old }
+    ensures failed { IsErrOf result ReadStop.Failed
+        → Rose (S.seen.faults src.old) (S.seen.faults src.new) }
+    ensures unfailed { result ≢ Err ReadStop.Failed
+        → S.seen.faults src.new ≡ S.seen.faults src.old }
     ensures no_memory { IsErrOf result ReadStop.NoMemory → src.new ≡ src.old }
     ensures faults_later { S.seen.faults src.old ≤ S.seen.faults src.new }
 {

@@ -88,7 +88,8 @@ impl<W: Write> Sink for StdSink<W> {
     fn write(&mut self, piece: &[u8]) -> Result<usize, SinkStop>
         ensures bound { WritesAtMost result piece.now }
         // The writer has taken what is counted.
-        ensures taken { IfOk result (λ count. Appends self.old.contents self.new.contents (take count piece.now)) }
+        ensures taken { IfOk result
+            (λ count. Appends self.old.contents self.new.contents (take count piece.now)) }
         // After an Err it has taken at most a prefix of the piece.
         ensures lost { OnErr result (AppendsPrefix self.old.contents self.new.contents piece.now) }
         ensures none { IfOk result (λ count. (count ≡ 0) ↔ (piece.now ≡ [])) }

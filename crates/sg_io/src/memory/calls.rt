@@ -27,7 +27,8 @@ impl Model for Calls {
 
 impl Calls {
     pub fn new(alloc: Global, fails: &[u32]) -> Result<Calls, NoIoMemory>
-        ensures { IfOk result (λ calls. calls ≡ record { fails = fails.now; made = 0; faults = 0 }) }
+        ensures { IfOk result (λ calls.
+            calls ≡ record { fails = fails.now; made = 0; faults = 0 }) }
     {
         match Vec::from_slice(alloc, fails) {
             Ok(fails) => Ok(Calls {

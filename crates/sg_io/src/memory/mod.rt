@@ -1,7 +1,9 @@
 mod calls;
+mod repeat;
 mod sink;
 mod source;
 
+pub use repeat::RepeatSource;
 pub use sink::{MemSink, NoFailSink};
 pub use source::{MemSource, NoFailSource};
 

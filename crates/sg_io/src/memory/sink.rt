@@ -105,7 +105,14 @@ impl MemSink {
     pub fn new(alloc: Global, piece: u32, fails: &[u32]) -> Result<MemSink, NoIoMemory>
         requires { 1 ≤ piece }
         ensures value { IfOk result (λ sink. sink ≡
-            record { held = []; piece = piece; wants = 0; fails = fails.now; made = 0; faults = 0 }) }
+            record {
+              held = [];
+              piece = piece;
+              wants = 0;
+              fails = fails.now;
+              made = 0;
+              faults = 0;
+            }) }
         ensures held { IfOk result (λ sink. ⟦<MemSink as Sink>⟧.seen.held sink ≡ Some []) }
     {
         Ok(MemSink {
@@ -123,7 +130,11 @@ impl MemSink {
 }
 
 impl Sink for MemSink {
-    ghost seen = { record { held = λ s. Some s.held; faults = λ s. s.faults; wants = λ s. s.wants } };
+    ghost seen = { record {
+      held = λ s. Some s.held;
+      faults = λ s. s.faults;
+      wants = λ s. s.wants;
+    } };
 
     fn write(&mut self, piece: &[u8]) -> Result<usize, SinkStop>
         ensures bound { WritesAtMost result piece.now }

@@ -34,8 +34,10 @@ impl NoFailSource {
     /// A source of these bytes, of which it takes a copy. A piece has at least one byte.
     pub fn new(alloc: Global, bytes: &[u8], piece: u32) -> Result<NoFailSource, NoIoMemory>
         requires { 1 ≤ piece }
-        ensures value { IfOk result (λ source. source ≡ record { left = bytes.now; piece = piece }) }
-        ensures left { IfOk result (λ source. ⟦<NoFailSource as Source>⟧.seen.left source ≡ Some bytes.now) }
+        ensures value { IfOk result (λ source.
+            source ≡ record { left = bytes.now; piece = piece }) }
+        ensures left { IfOk result
+            (λ source. ⟦<NoFailSource as Source>⟧.seen.left source ≡ Some bytes.now) }
     {
         match Vec::from_slice(alloc, bytes) {
             Ok(bytes) => Ok(NoFailSource {
@@ -55,7 +57,8 @@ impl Source for NoFailSource {
         ensures bound { ReadsAtMost result buf.new }
         ensures bytes { ReadConsumes (Some self.old.left) (Some self.new.left) result buf.new }
         ensures never_fails { IsOk result }
-        ensures count { IfOk result (λ count. count ≡ min (min (length self.old.left) (length buf.new)) self.old.piece) }
+        ensures count { IfOk result (λ count.
+            count ≡ min (min (length self.old.left) (length buf.new)) self.old.piece) }
         ensures same { self.new.piece ≡ self.old.piece }
     {
         let rest = &self.bytes[self.at..];
@@ -99,7 +102,8 @@ impl MemSource {
         requires { 1 ≤ piece }
         ensures value { IfOk result (λ source. source ≡
             record { left = bytes.now; piece = piece; fails = fails.now; made = 0; faults = 0 }) }
-        ensures left { IfOk result (λ source. ⟦<MemSource as Source>⟧.seen.left source ≡ Some bytes.now) }
+        ensures left { IfOk result
+            (λ source. ⟦<MemSource as Source>⟧.seen.left source ≡ Some bytes.now) }
     {
         Ok(MemSource {
             inner: NoFailSource::new(alloc, bytes, piece)?,
@@ -119,7 +123,8 @@ impl Source for MemSource {
         ensures faults_later { self.old.faults ≤ self.new.faults }
         ensures counted { CountsErrors self.old.faults self.new.faults result }
         ensures made { self.new.made ≡ raised self.old.made }
-        ensures count { IfOk result (λ count. count ≡ min (min (length self.old.left) (length buf.new)) self.old.piece) }
+        ensures count { IfOk result (λ count.
+            count ≡ min (min (length self.old.left) (length buf.new)) self.old.piece) }
         ensures same_fails { self.new.fails ≡ self.old.fails }
         ensures same_piece { self.new.piece ≡ self.old.piece }
     {
