@@ -26,7 +26,8 @@ pub trait Lines {
     /// Adds the next line to the page, which has room for the longest. False where there is none.
     fn next(&mut self, page: &mut Page) -> bool
         requires { length page.old + longest ≤ PAGE_ROOM }
-        ensures line { OnTrue result (AddsLine (texts self.old) (texts self.new) page.old page.new) }
+        ensures line { OnTrue result
+            (AddsLine (texts self.old) (texts self.new) page.old page.new) }
         ensures fewer { OnTrue result (left self.new < left self.old) }
         ensures none { OnFalse result (texts self.old []) }
         ensures same { OnFalse result (page.new ≡ page.old) };

@@ -4,12 +4,14 @@ use Rattle.phase_rules.specs.declared.pairs.Pairs.{Pairs}
 use Rattle.phase_rules.specs.declared.pairs.Pairs.TheVariants.{Friedel, Apart}
 use Rattle.sg_cli.specs.declared.words.Name.{Name}
 use Rattle.std.specs.Prelude.{codes}
-use Rattle.sg_cli.specs.Words.{Family, Bare, OfPoint, OfIndex, OfBox, AreThree, ArePointTexts, AreIndexTexts, AreBoxTexts, MayEndWith, are_apart, Given, HasArguments, written, family, Asked, IsAsked, IsNoCommand}
+use Rattle.sg_cli.specs.Words.{Family, Bare, OfPoint, OfIndex, OfBox, OfGrid, OfBasis, OfCell, OfSeed, IsSeedText, AreThree, ArePointTexts, AreIndexTexts, AreBoxTexts, AreGridTexts, IsBasisText, AreCellTexts, MayEndWith, are_apart, Given, HasArguments, written, family, Asked, IsAsked, IsNoCommand}
 use Rattle.sg_cli.proofs.Names.{one_name, name_or_none}
 use Rattle.sg_cli.proofs.ThreeWords.{three_long, one_of_three, three_or_none}
 use Rattle.sg_cli.proofs.FurtherWord.{one_may_end, may_end_or_not}
 use Rattle.sg_cli.proofs.PointWords.{point_of_texts, point_or_none}
-use Rattle.sg_cli.proofs.NumberWords.{one_index, index_or_none, one_box, box_or_none}
+use Rattle.sg_cli.proofs.FewWords.{one_of_one, one_or_none, one_of_two, two_or_none}
+use Rattle.sg_cli.proofs.ChangeWords.{one_basis, basis_or_none, one_cell, cell_or_none}
+use Rattle.sg_cli.proofs.NumberWords.{one_index, index_or_none, one_box, box_or_none, one_grid, grid_or_none, one_seed, seed_or_none}
 
 -- ---- Friedel pairs
 
@@ -47,6 +49,10 @@ one_given Bare a b words p q = refl
 one_given OfPoint a b words p q = one_of_three ArePointTexts point_of_texts a b words p q
 one_given OfIndex a b words p q = same_pairs a b (one_may_end anomalous 3 (λ h three. AreThree AreIndexTexts three h) (three_long AreIndexTexts) (one_of_three AreIndexTexts one_index) (a.0, are_apart a.1) (b.0, are_apart b.1) words p q)
 one_given OfBox a b words p q = same_pairs a b (one_may_end anomalous 3 (λ box three. AreThree AreBoxTexts three box) (three_long AreBoxTexts) (one_of_three AreBoxTexts one_box) (a.0, are_apart a.1) (b.0, are_apart b.1) words p q)
+one_given OfGrid a b words p q = one_of_three AreGridTexts one_grid a b words p q
+one_given OfBasis a b words p q = one_of_one IsBasisText one_basis a b words p q
+one_given OfCell a b words p q = one_of_two AreCellTexts one_cell a b words p q
+one_given OfSeed a b words p q = one_of_one IsSeedText one_seed a b words p q
 
 abbrev GivenOrNone : Family → List (List ℕ) → Type 0
 GivenOrNone f words = ((given : Given f) × HasArguments f given words) ⊎ ((given : Given f) → HasArguments f given words → ⊥)
@@ -57,6 +63,10 @@ given_or_none Bare (word ∷ words) = inr (λ given e. absurd cc)
 given_or_none OfPoint words = three_or_none ArePointTexts point_or_none words
 given_or_none OfIndex words = with_pairs AreIndexTexts words (may_end_or_not anomalous 3 (λ h three. AreThree AreIndexTexts three h) (three_long AreIndexTexts) (three_or_none AreIndexTexts index_or_none) words)
 given_or_none OfBox words = with_pairs AreBoxTexts words (may_end_or_not anomalous 3 (λ box three. AreThree AreBoxTexts three box) (three_long AreBoxTexts) (three_or_none AreBoxTexts box_or_none) words)
+given_or_none OfGrid words = three_or_none AreGridTexts grid_or_none words
+given_or_none OfBasis words = one_or_none IsBasisText basis_or_none words
+given_or_none OfCell words = two_or_none AreCellTexts cell_or_none words
+given_or_none OfSeed words = one_or_none IsSeedText seed_or_none words
 
 -- ---- commands
 

@@ -1,6 +1,6 @@
 -- Three words are what they say at most once, and whether they say it is decided, where this is so of their texts.
-use Rattle.std.proofs.Common.{◌≡◌, ◌⊎◌, ◌∷◌, [], List, ℕ, length, inl, inr, ap, sym, ◌∙◌, subst, arith}
-use Rattle.sg_cli.specs.Words.{AreThree}
+use Rattle.std.proofs.Common.{◌≡◌, ◌⊎◌, ◌∷◌, [], List, ℕ, Bool, codes, length, inl, inr, ap, sym, ◌∙◌, subst, arith}
+use Rattle.sg_cli.specs.Words.{AreThree, MayEndWith, three_with}
 
 same_texts : (x y z u v t : List ℕ) → x ∷ y ∷ z ∷ [] ≡ u ∷ v ∷ t ∷ [] → (x ≡ u) × (y ≡ v) × (z ≡ t)
 same_texts x y z u v t e = (cc, cc, cc)
@@ -11,6 +11,18 @@ module _ {A : Type 0} (Say : List ℕ → List ℕ → List ℕ → A → Type 0
   moved_texts x y z u v t a e h =
       let s = same_texts x y z u v t e in
       subst (λ r. Say u v r a) s.2 (subst (λ r. Say u r z a) s.1 (subst (λ r. Say r y z a) s.0 h))
+
+  -- what is said of no three such texts is said of no three words that they are
+  pub not_three : (words : List (List ℕ)) (x y z u v t : List ℕ) → words ≡ x ∷ y ∷ z ∷ [] → u ≡ x → v ≡ y → t ≡ z → ((a : A) → Say u v t a → ⊥) → (a : A) → AreThree Say words a → ⊥
+  not_three words x y z u v t e p q r none a h = none a (moved_texts h.x h.y h.z u v t a (sym h.words_are ∙ e ∙ λ i. sym p i ∷ sym q i ∷ sym r i ∷ []) h.say)
+
+  -- three words that say this, and Friedel pairs apart or not
+  pub three_and_further : (words : List (List ℕ)) (x y z : List ℕ) (apart : Bool) (a : A) → words ≡ three_with x y z apart → Say x y z a → MayEndWith (codes "anomalous") (λ three. AreThree Say three a) words apart
+  three_and_further words x y z apart a e said = record {
+    arguments = x ∷ y ∷ z ∷ [];
+    are = record { x = x; y = y; z = z; words_are = λ _. x ∷ y ∷ z ∷ []; say = said };
+    words_are = e;
+  }
 
   pub three_long : (a : A) (words : List (List ℕ)) → AreThree Say words a → length words ≡ 3
   three_long a words h = ap length h.words_are

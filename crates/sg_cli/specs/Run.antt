@@ -3,9 +3,22 @@ use Rattle.std.specs.Prelude.{◌≡◌, ◌≢◌, ◌⊎◌, ◌==◌, if◌th
 use Rattle.std.specs.Io.KnownBytes.{Appends}
 use Rattle.sg_io.specs.Count.{Rose}
 use Rattle.sg_io.specs.Bytes.{AppendsPrefix}
+use Rattle.lattice_algebra.specs.Operator.{Operator}
+use Rattle.exact_ops.specs.declared.TheConstants.{UNIT}
+use Rattle.triplet_text.specs.Lines.{lines_of, AreRead}
+use Rattle.group_closure.specs.Words.{Closes}
+use Rattle.group_closure.specs.GroupList.{IsGroupList}
+use Rattle.space_groups.specs.Rows.{Row, IsTable}
 use Rattle.page_print.specs.Lines.{SomeText}
+use Rattle.table_print.specs.Rows.{IsRowsText}
+use Rattle.table_print.specs.Table.{IsTableText}
 use Rattle.sg_cli.specs.declared.fault.Fault.{Fault}
+use Rattle.sg_cli.specs.declared.words.Name.{Name}
+use Rattle.sg_cli.specs.declared.words.Name.TheVariants.{Wyckoff, Fit, Table, Sample}
 use Rattle.sg_cli.specs.Stages.{Gives, Refuses, Stage}
+use Rattle.sg_cli.specs.Words.{Asked, IsAsked, Given, family, ReadsNothing}
+use Rattle.sg_cli.specs.Wyckoff.{IsFitText, IsCountedText}
+use Rattle.samples.specs.Groups.{number_of, IsSampleGroup}
 use Rattle.sg_cli.specs.Answer.{Answer, IsAnswer, status_of_answer}
 use Rattle.sg_io.specs.Streams.{SeenSink}
 
@@ -17,7 +30,7 @@ IsDecided status = (status ≢ 3) × (status ≢ 4) × (status ≢ 9)
 abbrev pub IsRefusal : ℕ → Type 0
 IsRefusal status = (status ≢ 0) × (status ≢ 4) × (status ≢ 9)
 
--- the source was read to its end before this status was answered
+-- the source was read to its end before this status was answered, unless the words read nothing
 abbrev pub IsReadToEnd : ℕ → Type 0
 IsReadToEnd status = (status ≢ 2) × (status ≢ 3) × (status ≢ 9) × (status ≢ 10)
 
@@ -25,9 +38,13 @@ IsReadToEnd status = (status ≢ 2) × (status ≢ 3) × (status ≢ 9) × (stat
 abbrev pub before_writing : ℕ → ℕ
 before_writing status = if status == 4 then 0 else status
 
--- where the bytes are told, this is the answer
+-- where the bytes are told, this holds of them; and of all bytes, where the words read nothing
+abbrev pub IfKnown : List (List ℕ) → Option (List ℕ) → (List ℕ → Type 0) → Type 0
+IfKnown words left Holds = IfSome left Holds × (ReadsNothing words → (bytes : List ℕ) → Holds bytes)
+
+-- where the bytes are told, or the words read nothing, this is the answer
 abbrev pub IfTold : List (List ℕ) → Option (List ℕ) → Stage (List ℕ)
-IfTold words left answer = IfSome left (λ bytes. IsAnswer words bytes answer)
+IfTold words left answer = IfKnown words left (λ bytes. IsAnswer words bytes answer)
 
 -- the answer has this status
 abbrev pub HasStatus : List (List ℕ) → List ℕ → ℕ → Type 0
@@ -46,9 +63,42 @@ abbrev pub IsGiven : Option (List ℕ) → Option (List ℕ) → ℕ → Answer 
 IsGiven old new status (Gives text) = (status ≡ 0) × Appends old new text
 IsGiven old new status (Refuses fault) = status ≡ status_of_answer (Refuses fault)
 
--- where the bytes are told, the answer was given, or memory was wanted
+-- where the bytes are told, or the words read nothing, the answer was given, or memory was wanted
 abbrev pub Completes : List (List ℕ) → Option (List ℕ) → Option (List ℕ) → Option (List ℕ) → ℕ → Type 0
-Completes words left old new status = IfSome left (λ bytes. ((answer : Answer) × IsAnswer words bytes answer × IsGiven old new status answer) ⊎ (status ≡ 9))
+Completes words left old new status = IfKnown words left (λ bytes. ((answer : Answer) × IsAnswer words bytes answer × IsGiven old new status answer) ⊎ (status ≡ 9))
+
+-- the members are the group of the input: its lines are operators, which close to it
+pub record IsGroupOf (bytes : List ℕ) (members : List Operator) : Type 0 where
+  pub list : List Operator
+  pub read : AreRead (lines_of bytes) list
+  pub closes : Closes list
+  pub group : IsGroupList list members
+
+-- the members are the group that is asked about: of `sample` the made one, of the other commands that of the input
+abbrev pub IsGroupAsked : (name : Name) → Given (family name) → List ℕ → List Operator → Type 0
+IsGroupAsked Sample seed bytes members = IsSampleGroup (number_of seed) members
+IsGroupAsked other given bytes members = IsGroupOf bytes members
+
+-- what the text shows of rows: `wyckoff` the line of each, `table` and `sample` these lines under a heading, `fit` the line of
+-- that which the point fits; the other commands show none
+abbrev pub ShowsRows : (name : Name) → Given (family name) → List Operator → List Row → List ℕ → Type 0
+ShowsRows Wyckoff given members rows text = IsRowsText members rows text
+ShowsRows Table g members rows text = IsTableText g.1 members rows g.0 text
+ShowsRows Fit x members rows text = IsFitText members x rows text
+ShowsRows Sample seed members rows text = IsCountedText members seed rows text
+ShowsRows other given members rows text = Unit {0}
+
+-- where the words ask for rows, the text shows those of a Wyckoff table of the group that is asked about
+pub record IsTabled (bytes : List ℕ) (asked : Asked) (text : List ℕ) : Type 0 where
+  pub members : List Operator
+  pub is_group : IsGroupAsked asked.name asked.given bytes members
+  pub rows : List Row
+  pub table : IsTable UNIT members rows
+  pub shown : ShowsRows asked.name asked.given members rows text
+
+-- where the bytes are told, or the words read nothing, a text with this property shows these rows, where the words ask for some
+abbrev pub IfTabled : List (List ℕ) → Option (List ℕ) → (List ℕ → Type 0) → Type 0
+IfTabled words left IsSuch = SomeText (λ text. IfKnown words left (λ bytes. (asked : Asked) → IsAsked words asked → IsTabled bytes asked text)) IsSuch
 
 module _ {K : Type 0} (sink : SeenSink K) where
   open sink use {held, faults, wants}

@@ -8,7 +8,7 @@ use Rattle.page_print.specs.Lines.{SomeText}
 use Rattle.sg_cli.specs.declared.TheConstants.{MAX_INPUT}
 use Rattle.sg_cli.specs.declared.fault.Fault.{Fault}
 use Rattle.sg_cli.specs.declared.fault.Fault.TheVariants as fault
-use Rattle.sg_cli.specs.Words.{IsNoCommand}
+use Rattle.sg_cli.specs.Words.{IsNoCommand, ReadsNothing}
 use Rattle.sg_cli.specs.Stages.{Gives, Refuses, Stage}
 use Rattle.sg_cli.specs.Run.{IfTold}
 
@@ -34,4 +34,4 @@ module _ {K : Type 0} (sink : SeenSink K) where
     Serves words s t old new (Err fault.Reading) = Rose (source.faults s) (source.faults t) × (new ≡ old)
     Serves words s t old new (Err fault.TooLong) = ConsumesSome (source.left s) (source.left t) (λ count. count ≡ MAX_INPUT + 1) × IfTold words (source.left s) (Refuses fault.TooLong) × (new ≡ old)
     Serves words s t old new (Err fault.NoMemory) = Answers (IfTold words (source.left s)) old new (Err fault.NoMemory)
-    Serves words s t old new result = IsAtEnd (source.left t) × Answers (IfTold words (source.left s)) old new result
+    Serves words s t old new result = ((ReadsNothing words → ⊥) → IsAtEnd (source.left t)) × Answers (IfTold words (source.left s)) old new result

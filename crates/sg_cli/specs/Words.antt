@@ -1,24 +1,30 @@
 -- The words of the command line, and the commands that they are.
-use Rattle.std.specs.Prelude.{◌≡◌, ◌++◌, if◌then◌else◌, Bool, true, false, List, [], ◌∷◌, ℕ, ℤ, map, codes}
+use Rattle.std.specs.Prelude.{◌≡◌, ◌≤◌, ◌<◌, ◌^◌, ◌++◌, if◌then◌else◌, Bool, true, false, List, [], ◌∷◌, ℕ, ℤ, pos, map, codes}
 use Rattle.std.specs.String.{string_bytes}
 use Rattle.std.specs.Global.{Global}
 use Rattle.std.specs.declared.string.String.{String}
 use Rattle.lattice_algebra.specs.Point.{Point}
 use Rattle.exact_ops.specs.Points.{HasCoordinates}
 use Rattle.exact_ops.specs.Numbers.{point_in}
-use Rattle.lattice_algebra.specs.Operator.{AreWithin}
+use Rattle.lattice_algebra.specs.Matrix.{IsUnimodular}
+use Rattle.lattice_algebra.specs.Operator.{Operator, AreWithin, HasEntriesWithin}
 use Rattle.phase_rules.specs.declared.TheConstants.{MAX_INDEX}
 use Rattle.phase_rules.specs.declared.pairs.Pairs.{Pairs}
 use Rattle.phase_rules.specs.declared.pairs.Pairs.TheVariants.{Friedel, Apart}
 use Rattle.phase_rules.specs.Rows.{Row}
 use Rattle.reflections.specs.Boxes.{Box, IsBoxInRange}
+use Rattle.grid_tags.specs.Grids as grids
+use Rattle.grid_tags.specs.Grids.{IsGridInRange}
+use Rattle.space_groups.specs.Bases.{CoordinateChange, IsInvertible}
+use Rattle.basis_change.specs.declared.TheConstants.{MAX_CELL}
 use Rattle.triplet_text.specs.Coordinates.{IsCoordinate}
+use Rattle.triplet_text.specs.Grammar.{IsTriplet}
 use Rattle.triplet_text.specs.Integers.{IsNatural, IsInteger}
-use Rattle.sg_cli.specs.declared.TheConstants.{NUMBER_DIGITS}
+use Rattle.sg_cli.specs.declared.TheConstants.{NUMBER_DIGITS, CELL_DIGITS, SEED_DIGITS}
 use Rattle.sg_cli.specs.declared.words.Command.{Command}
 use Rattle.sg_cli.specs.declared.words.Command.TheVariants as command
 use Rattle.sg_cli.specs.declared.words.Name.{Name}
-use Rattle.sg_cli.specs.declared.words.Name.TheVariants.{Ops, Types, Site, Index, Refl}
+use Rattle.sg_cli.specs.declared.words.Name.TheVariants.{Ops, Types, Site, Index, Refl, Grid, Basis, Recell, Wyckoff, Fit, Table, Sample}
 
 -- each word as its bytes
 abbrev pub texts : List (String Global) → List (List ℕ)
@@ -40,19 +46,61 @@ pub record ArePointTexts (x y z : List ℕ) (p : Point) : Type 0 where
   pub is_third : IsCoordinate z third.0 third.1
   pub point : HasCoordinates (first ∷ second ∷ third ∷ []) p
 
+-- the texts are three numbers, and a, which is in range, has them
+pub record AreNumbersOf {N A : Type 0} (Is : List ℕ → N → Type 0) (numbers : A → N × N × N) (IsInRange : A → Type 0) (x y z : List ℕ) (a : A) : Type 0 where
+  pub first : Is x (numbers a).0
+  pub second : Is y (numbers a).1
+  pub third : Is z (numbers a).2
+  pub in_range : IsInRange a
+
 -- the texts are three whole numbers, and h is the index that has them
-pub record AreIndexTexts (x y z : List ℕ) (h : Row) : Type 0 where
-  pub first : IsInteger NUMBER_DIGITS x h.h
-  pub second : IsInteger NUMBER_DIGITS y h.k
-  pub third : IsInteger NUMBER_DIGITS z h.l
-  pub in_range : AreWithin MAX_INDEX h.h h.k h.l
+abbrev pub AreIndexTexts : List ℕ → List ℕ → List ℕ → Row → Type 0
+AreIndexTexts = AreNumbersOf (IsInteger NUMBER_DIGITS) (λ (h : Row). (h.h, h.k, h.l)) (λ (h : Row). AreWithin MAX_INDEX h.h h.k h.l)
 
 -- the texts are three whole numbers without a sign, and b is the box of indices that has them
-pub record AreBoxTexts (x y z : List ℕ) (b : Box) : Type 0 where
-  pub first : IsNatural NUMBER_DIGITS x b.h
-  pub second : IsNatural NUMBER_DIGITS y b.k
-  pub third : IsNatural NUMBER_DIGITS z b.l
-  pub in_range : IsBoxInRange b
+abbrev pub AreBoxTexts : List ℕ → List ℕ → List ℕ → Box → Type 0
+AreBoxTexts = AreNumbersOf (IsNatural NUMBER_DIGITS) (λ (b : Box). (b.h, b.k, b.l)) IsBoxInRange
+
+-- the texts are three whole numbers without a sign, and s is the grid that has them
+abbrev pub AreGridTexts : List ℕ → List ℕ → List ℕ → grids.Grid → Type 0
+AreGridTexts = AreNumbersOf (IsNatural NUMBER_DIGITS) (λ (s : grids.Grid). (s.a, s.b, s.c)) IsGridInRange
+
+-- the text is a triplet whose matrix has a whole inverse, and c is the change of the basis and the origin that has its numbers
+pub record IsBasisText (text : List ℕ) (c : CoordinateChange) : Type 0 where
+  pub operator : Operator
+  pub triplet : IsTriplet text operator
+  pub unimodular : IsUnimodular operator.w
+  pub change : c ≡ record { w = operator.w; t = operator.t; d = pos 1 }
+
+-- the texts are a whole number without a sign and a triplet, and c is the change of the cell that has their numbers
+pub record AreCellTexts (over text : List ℕ) (c : CoordinateChange) : Type 0 where
+  pub d : ℕ
+  pub operator : Operator
+  pub number : IsNatural CELL_DIGITS over d
+  pub triplet : IsTriplet text operator
+  pub first : 1 ≤ d
+  pub last : d ≤ MAX_CELL
+  pub within : HasEntriesWithin MAX_CELL operator.w
+  pub invertible : IsInvertible operator.w
+  pub change : c ≡ record { w = operator.w; t = operator.t; d = pos d }
+
+-- the text is a whole number without a sign, which 32 bits hold
+pub record IsSeedText (text : List ℕ) (seed : ℕ) : Type 0 where
+  pub number : IsNatural SEED_DIGITS text seed
+  pub in_range : seed < 2 ^ 32
+
+-- one word, whose text says this
+pub record IsOne {A : Type 0} (Say : List ℕ → A → Type 0) (words : List (List ℕ)) (a : A) : Type 0 where
+  pub text : List ℕ
+  pub words_are : words ≡ text ∷ []
+  pub say : Say text a
+
+-- two words, whose texts say this
+pub record AreTwo {A : Type 0} (Say : List ℕ → List ℕ → A → Type 0) (words : List (List ℕ)) (a : A) : Type 0 where
+  pub x : List ℕ
+  pub y : List ℕ
+  pub words_are : words ≡ x ∷ y ∷ []
+  pub say : Say x y a
 
 -- three words, whose texts say this
 pub record AreThree {A : Type 0} (Say : List ℕ → List ℕ → List ℕ → A → Type 0) (words : List (List ℕ)) (a : A) : Type 0 where
@@ -83,6 +131,10 @@ pub data Family : Type 0 where
   OfPoint : Family
   OfIndex : Family
   OfBox : Family
+  OfGrid : Family
+  OfBasis : Family
+  OfCell : Family
+  OfSeed : Family
 
 -- what the arguments of a family give
 abbrev pub Given : Family → Type 0
@@ -90,6 +142,10 @@ Given Bare = Unit {0}
 Given OfPoint = Point
 Given OfIndex = Row × Pairs
 Given OfBox = Box × Pairs
+Given OfGrid = grids.Grid
+Given OfBasis = CoordinateChange
+Given OfCell = CoordinateChange
+Given OfSeed = ℕ
 
 -- the words are arguments that give this
 abbrev pub HasArguments : (f : Family) → Given f → List (List ℕ) → Type 0
@@ -97,6 +153,10 @@ HasArguments Bare given words = AreNone words
 HasArguments OfPoint p words = AreThree ArePointTexts words p
 HasArguments OfIndex g words = MayEndWith (codes "anomalous") (λ three. AreThree AreIndexTexts three g.0) words (are_apart g.1)
 HasArguments OfBox g words = MayEndWith (codes "anomalous") (λ three. AreThree AreBoxTexts three g.0) words (are_apart g.1)
+HasArguments OfGrid s words = AreThree AreGridTexts words s
+HasArguments OfBasis c words = IsOne IsBasisText words c
+HasArguments OfCell c words = AreTwo AreCellTexts words c
+HasArguments OfSeed seed words = IsOne IsSeedText words seed
 
 -- ---- commands
 
@@ -107,6 +167,13 @@ written Types = codes "types"
 written Site = codes "site"
 written Index = codes "index"
 written Refl = codes "refl"
+written Grid = codes "grid"
+written Basis = codes "basis"
+written Recell = codes "recell"
+written Wyckoff = codes "wyckoff"
+written Fit = codes "fit"
+written Table = codes "table"
+written Sample = codes "sample"
 
 -- which arguments follow it
 abbrev pub family : Name → Family
@@ -115,6 +182,13 @@ family Types = Bare
 family Site = OfPoint
 family Index = OfIndex
 family Refl = OfBox
+family Grid = OfGrid
+family Basis = OfBasis
+family Recell = OfCell
+family Wyckoff = Bare
+family Fit = OfPoint
+family Table = OfBox
+family Sample = OfSeed
 
 -- a command as contracts see it: its name, and what its arguments give
 pub record Asked : Type 0 where
@@ -127,6 +201,13 @@ seen command.Types = record { name = Types; given = tt }
 seen (command.Site p) = record { name = Site; given = point_in p }
 seen (command.Index h pairs) = record { name = Index; given = (h, pairs) }
 seen (command.Refl box pairs) = record { name = Refl; given = (box, pairs) }
+seen (command.Grid size) = record { name = Grid; given = size }
+seen (command.Basis c) = record { name = Basis; given = c }
+seen (command.Recell c) = record { name = Recell; given = c }
+seen command.Wyckoff = record { name = Wyckoff; given = tt }
+seen (command.Fit p) = record { name = Fit; given = point_in p }
+seen (command.Table box pairs) = record { name = Table; given = (box, pairs) }
+seen (command.Sample seed) = record { name = Sample; given = seed }
 
 -- the words are this name and arguments that give this
 pub record IsAsked (words : List (List ℕ)) (asked : Asked) : Type 0 where
@@ -145,3 +226,7 @@ IsNoCommand words = (asked : Asked) → IsAsked words asked → ⊥
 -- a command of this name, which has these arguments
 abbrev pub IsSeenAs : Name → List (List ℕ) → Command → Type 0
 IsSeenAs name words command = ((seen command).name ≡ name) × HasArguments (family (seen command).name) (seen command).given words
+
+-- the words are a command that reads no input
+abbrev pub ReadsNothing : List (List ℕ) → Type 0
+ReadsNothing words = (seed : ℕ) × IsAsked words (record { name = Sample; given = seed })

@@ -1,28 +1,34 @@
-ghost use Rattle.std.specs.Prelude.{◌≡◌, ◌≢◌, ◌⊎◌, ◌↔◌, ◌+◌, ◌≤◌, IfSome, length, IsErrOf};
+ghost use Rattle.std.specs.Prelude.{◌≡◌, ◌≢◌, ◌⊎◌, ◌↔◌, ◌+◌, ◌≤◌, length, IsErrOf};
 ghost use Rattle.std.specs.Io.KnownBytes.{Appends, IsAtEnd};
 ghost use Rattle.exact_ops.specs.Numbers.{point_in};
 ghost use Rattle.sg_io.specs.Bytes.{AppendsPrefix, ConsumesSome};
 ghost use Rattle.sg_io.specs.Count.{Rose};
 ghost use Rattle.sg_cli.specs.declared.fault.Fault.{Fault};
-ghost use Rattle.sg_cli.specs.Answer.{IsAnswerTo, AnswerOver, Printing, IsSiteTextFor};
+ghost use Rattle.sg_cli.specs.Answer.{IsAnswerTo, AnswerOver, Printing, IsSiteTextFor, OverGrid, OverBasis, OverCell};
 ghost use Rattle.sg_cli.specs.Fault.{status_of, text_of};
 ghost use Rattle.table_print.specs.Classes.{IsIndexText, IsBoxText};
-ghost use Rattle.sg_cli.specs.Run.{IsDecided, IsRefusal, IsReadToEnd, before_writing, HasStatus, IfPrinted, IfRefused, IsTold, Completes};
+ghost use Rattle.sg_cli.specs.Run.{IsDecided, IsRefusal, IsReadToEnd, before_writing, HasStatus, IfPrinted, IfTabled, IfRefused, IfKnown, IsTold, Completes};
 ghost use Rattle.sg_cli.specs.Steps.{Answers, Counted, Serves};
-ghost use Rattle.sg_cli.specs.Words.{IsNoCommand, seen, texts};
+ghost use Rattle.sg_cli.specs.Words.{IsNoCommand, ReadsNothing, seen, texts};
 
 use crate::MAX_INPUT;
 use crate::fault::Fault;
 use crate::words::{Command, read_words};
+use crate::wyckoff::{answer_fit, answer_sample, answer_table, answer_wyckoff};
+use basis_change::cell::CellChange;
+use basis_change::parts::Change;
+use basis_change::{change, recell};
 use exact_ops::Point;
+use grid_tags::{GridOrbits, GridSize};
 use group_closure::Group;
 use orbit_map::orbit;
 use phase_rules::{Index, Pairs};
 use reflections::{BoxSize, ClassList};
+use samples::{number_of, sample_group};
 use sg_io::{Sink, Source, put_all, read_all};
 use site_symmetry::site;
 use std::alloc::Global;
-use table_print::{print_classes, print_index, print_ops, print_site, print_types};
+use table_print::{print_classes, print_index, print_ops, print_orbits, print_site, print_types};
 use triplet_text::read_lines;
 
 /// Prints the answer to the command, where there is one. All memory is taken before the first byte is written.
@@ -57,6 +63,13 @@ fn print_text<K: Sink>(
         Command::Site(point) => answer_site(alloc, group, &point, out),
         Command::Index(index, pairs) => answer_index(group, &index, pairs, out),
         Command::Refl(size, pairs) => answer_refl(alloc, group, &size, pairs, out),
+        Command::Grid(size) => answer_grid(alloc, group, &size, out),
+        Command::Basis(c) => answer_basis(alloc, group, &c, out),
+        Command::Recell(c) => answer_recell(alloc, group, &c, out),
+        Command::Wyckoff => answer_wyckoff(alloc, group, out),
+        Command::Fit(point) => answer_fit(alloc, group, &point, out),
+        Command::Table(size, pairs) => answer_table(alloc, group, &size, pairs, out),
+        Command::Sample(seed) => answer_sample(alloc, group, seed, out),
     }
 }
 
@@ -66,7 +79,8 @@ fn answer_site<K: Sink>(
     point: &Point,
     out: &mut K,
 ) -> Result<(), Fault>
-    ensures answers { Answers K.seen (Printing (IsSiteTextFor group.now (point_in point.now))) out.old out.new result }
+    ensures answers { Answers K.seen
+        (Printing (IsSiteTextFor group.now (point_in point.now))) out.old out.new result }
     ensures counted { Counted K.seen out.old out.new result }
 {
     let site = site(alloc, group, point)?;
@@ -80,7 +94,8 @@ fn answer_index<K: Sink>(
     pairs: Pairs,
     out: &mut K,
 ) -> Result<(), Fault>
-    ensures answers { Answers K.seen (Printing (IsIndexText pairs group.now index.now)) out.old out.new result }
+    ensures answers { Answers K.seen
+        (Printing (IsIndexText pairs group.now index.now)) out.old out.new result }
     ensures counted { Counted K.seen out.old out.new result }
 {
     Ok(print_index(group, index, pairs, out)?)
@@ -94,14 +109,54 @@ fn answer_refl<K: Sink>(
     pairs: Pairs,
     out: &mut K,
 ) -> Result<(), Fault>
-    ensures answers { Answers K.seen (Printing (IsBoxText pairs group.now size.now)) out.old out.new result }
+    ensures answers { Answers K.seen
+        (Printing (IsBoxText pairs group.now size.now)) out.old out.new result }
     ensures counted { Counted K.seen out.old out.new result }
 {
     let mut list = ClassList::begin(alloc, group, size, pairs)?;
     Ok(print_classes(group, &mut list, out)?)
 }
 
-/// Reads the words and the source, and prints the answer.
+/// Prints the orbits of a grid, where the group keeps it. All memory is taken before the first byte is written.
+fn answer_grid<K: Sink>(
+    alloc: Global,
+    group: &Group,
+    size: &GridSize,
+    out: &mut K,
+) -> Result<(), Fault>
+    ensures answers { Answers K.seen (OverGrid group.now size.now) out.old out.new result }
+    ensures counted { Counted K.seen out.old out.new result }
+{
+    let mut orbits = GridOrbits::begin(alloc, group, size)?;
+    Ok(print_orbits(group, &mut orbits, out)?)
+}
+
+/// Prints the operators of the group in another basis, where no entry becomes too large. All memory is taken before the
+/// first byte is written.
+fn answer_basis<K: Sink>(alloc: Global, group: &Group, c: &Change, out: &mut K) -> Result<(), Fault>
+    ensures answers { Answers K.seen (OverBasis group.now c.now) out.old out.new result }
+    ensures counted { Counted K.seen out.old out.new result }
+{
+    let changed = change(alloc, group, c)?;
+    Ok(print_ops(&changed, out)?)
+}
+
+/// Prints the operators of the group in another cell, where there is such a group. All memory is taken before the first
+/// byte is written.
+fn answer_recell<K: Sink>(
+    alloc: Global,
+    group: &Group,
+    c: &CellChange,
+    out: &mut K,
+) -> Result<(), Fault>
+    ensures answers { Answers K.seen (OverCell group.now c.now) out.old out.new result }
+    ensures counted { Counted K.seen out.old out.new result }
+{
+    let changed = recell(alloc, group, c)?;
+    Ok(print_ops(&changed, out)?)
+}
+
+/// Reads the words, and the source where the command reads one, and prints the answer.
 fn serve<S: Source, K: Sink>(
     alloc: Global,
     words: &[String],
@@ -109,16 +164,25 @@ fn serve<S: Source, K: Sink>(
     out: &mut K,
 ) -> Result<(), Fault>
     ensures words { IsErrOf result Fault.Words ↔ IsNoCommand (texts words.now) }
-    ensures served { Serves K.seen S.seen (texts words.now) source.old source.new out.old out.new result }
+    ensures served { Serves K.seen S.seen
+        (texts words.now) source.old source.new out.old out.new result }
     ensures counted { Counted K.seen out.old out.new result }
-    ensures unfailed { result ≢ Err Fault.Reading → S.seen.faults source.new ≡ S.seen.faults source.old }
+    ensures unfailed { result ≢ Err Fault.Reading
+        → S.seen.faults source.new ≡ S.seen.faults source.old }
+    ensures unread { ReadsNothing (texts words.now)
+        → (result ≢ Err Fault.Reading) × (source.new ≡ source.old) }
 {
     let Some(command) = read_words(words) else {
         return Err(Fault::Words);
     };
+    if let Command::Sample(seed) = command {
+        let group = sample_group(alloc, number_of(seed))?;
+        return print_text(alloc, command, &group, out);
+    }
     let bytes = read_all(alloc, source, MAX_INPUT)?;
     print_answer(alloc, command, &bytes, out)
 }
+
 /// Writes the text of the fault. Where the write is refused, nothing more comes of it.
 pub fn tell<E: Sink>(err: &mut E, fault: Fault)
     ensures { IsTold E.seen
@@ -140,25 +204,41 @@ pub fn run<S: Source, K: Sink, E: Sink>(
     ensures words { (result ≡ 2) ↔ IsNoCommand (texts words.now) }
     ensures words_unread { result ≡ 2 → source.new ≡ source.old }
 
+    // `sample` reads nothing, so its reading cannot fail.
+    ensures sample_unread { ReadsNothing (texts words.now)
+        → (result ≢ 3) × (source.new ≡ source.old) }
+
     // No other status hides a fault of reading.
     ensures read_fault { result ≡ 3 → Rose (S.seen.faults source.old) (S.seen.faults source.new) }
     ensures read_fault_only { result ≢ 3 → S.seen.faults source.new ≡ S.seen.faults source.old }
 
     // The status is that of the answer, of which the writing may have failed.
     ensures status { result ≢ 3 → result ≢ 9 →
-        IfSome (S.seen.left source.old) (λ bytes. HasStatus (texts words.now) bytes (before_writing result)) }
-    ensures status_end_of_input { IsReadToEnd result → IsAtEnd (S.seen.left source.new) }
+        IfKnown (texts words.now) (S.seen.left source.old)
+        (λ bytes. HasStatus (texts words.now) bytes (before_writing result)) }
+    ensures status_end_of_input { (ReadsNothing (texts words.now) → ⊥)
+        → IsReadToEnd result → IsAtEnd (S.seen.left source.new) }
     ensures status_too_long { result ≡ 10 →
-        ConsumesSome (S.seen.left source.old) (S.seen.left source.new) (λ count. count ≡ MAX_INPUT + 1) }
+        ConsumesSome (S.seen.left source.old)
+        (S.seen.left source.new) (λ count. count ≡ MAX_INPUT + 1) }
 
     // The output is the text of the answer, or a prefix of it.
     ensures output { result ≡ 0 →
-        IfPrinted (texts words.now) (S.seen.left source.old) (Appends (K.seen.held out.old) (K.seen.held out.new)) }
+        IfPrinted (texts words.now) (S.seen.left source.old)
+        (Appends (K.seen.held out.old) (K.seen.held out.new)) }
     ensures output_prefix { result ≡ 4 →
-        IfPrinted (texts words.now) (S.seen.left source.old) (AppendsPrefix (K.seen.held out.old) (K.seen.held out.new)) }
-    ensures output_memory { result ≡ 9 → (out.new ≡ out.old) ⊎ (Rose (K.seen.wants out.old) (K.seen.wants out.new)
-        × IfPrinted (texts words.now) (S.seen.left source.old) (AppendsPrefix (K.seen.held out.old) (K.seen.held out.new))) }
+        IfPrinted (texts words.now) (S.seen.left source.old)
+        (AppendsPrefix (K.seen.held out.old) (K.seen.held out.new)) }
+    ensures output_memory { result ≡ 9 → (out.new ≡ out.old)
+        ⊎ (Rose (K.seen.wants out.old) (K.seen.wants out.new)
+        × IfPrinted (texts words.now) (S.seen.left source.old)
+        (AppendsPrefix (K.seen.held out.old) (K.seen.held out.new))) }
     ensures output_none { IsRefusal result → out.new ≡ out.old }
+
+    // The rows that were written are those of a Wyckoff table of the group that is asked about.
+    ensures table { result ≡ 0 →
+        IfTabled (texts words.now) (S.seen.left source.old)
+        (Appends (K.seen.held out.old) (K.seen.held out.new)) }
 
     // No other status hides a fault of writing, or a want of memory of the output.
     ensures write_fault { result ≡ 4 → Rose (K.seen.faults out.old) (K.seen.faults out.new) }
@@ -172,9 +252,11 @@ pub fn run<S: Source, K: Sink, E: Sink>(
     ensures fault_text_none { result ≡ 0 → err.new ≡ err.old }
 
     // Where nothing fails, the answer is given, or memory is wanted.
-    ensures complete { (Rose (S.seen.faults source.old) (S.seen.faults source.new) → ⊥)
+    ensures complete { ReadsNothing (texts words.now)
+        ⊎ (Rose (S.seen.faults source.old) (S.seen.faults source.new) → ⊥)
         → (Rose (K.seen.faults out.old) (K.seen.faults out.new) → ⊥)
-        → Completes (texts words.now) (S.seen.left source.old) (K.seen.held out.old) (K.seen.held out.new) result }
+        → Completes (texts words.now) (S.seen.left source.old)
+        (K.seen.held out.old) (K.seen.held out.new) result }
 {
     match serve(alloc, words, source, out) {
         Ok(()) => 0,

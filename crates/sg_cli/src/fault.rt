@@ -1,8 +1,11 @@
 ghost use Rattle.std.specs.Prelude.{◌≡◌};
-ghost use Rattle.sg_cli.specs.Fault.{fault_of_read, fault_of_lines, fault_of_close, fault_of_write, fault_of_want, status_of, text_of};
+ghost use Rattle.sg_cli.specs.Fault.{fault_of_read, fault_of_lines, fault_of_close, fault_of_grid, fault_of_change, fault_of_recell, fault_of_write, fault_of_want, status_of, text_of};
 
-use exact_ops::NoMemory;
-use group_closure::CloseFault;
+use basis_change::basis::ChangeFault;
+use basis_change::cell::RecellFault;
+use exact_ops::{NoMemory, UNIT};
+use grid_tags::GridFault;
+use group_closure::{CloseFault, MAX_OPERATORS};
 use itoa::Buffer;
 use sg_io::{ReadStop, SinkStop};
 use triplet_text::{LineFault, Text};
@@ -22,6 +25,18 @@ pub enum Fault {
     NotUnimodular(u32),
     /// The operators generate more than `MAX_OPERATORS`, or one with an entry outside -2..=2.
     Unclosed,
+    /// The group does not keep the grid.
+    NotKept,
+    /// The translation by one changed cell along some axis is no changed element.
+    NotCell,
+    /// A changed operator has an entry that is not whole.
+    NotWhole,
+    /// A changed operator has an entry outside -2..=2.
+    TooWide,
+    /// A changed operator has a translation that is not whole in parts of a cell.
+    TooFine,
+    /// The changed group has more than `MAX_OPERATORS` operators.
+    TooMany,
     /// The output could not be written.
     Writing,
     /// Memory was wanted.
@@ -40,6 +55,12 @@ impl Fault {
             Fault::Unreadable(_) => 5,
             Fault::NotUnimodular(_) => 6,
             Fault::Unclosed => 7,
+            Fault::NotKept => 8,
+            Fault::NotCell => 8,
+            Fault::NotWhole => 8,
+            Fault::TooWide => 8,
+            Fault::TooFine => 8,
+            Fault::TooMany => 8,
             Fault::Writing => 4,
             Fault::NoMemory => 9,
         }
@@ -65,6 +86,20 @@ impl Fault {
                 text.push(b": not unimodular\n");
             }
             Fault::Unclosed => text.push(b"sg: operators do not close\n"),
+            Fault::NotKept => text.push(b"sg: grid is not kept\n"),
+            Fault::NotCell => text.push(b"sg: changed cell is no lattice cell\n"),
+            Fault::NotWhole => text.push(b"sg: changed entry is not whole\n"),
+            Fault::TooWide => text.push(b"sg: changed entry beyond 2\n"),
+            Fault::TooFine => {
+                text.push(b"sg: changed translation is finer than 1/");
+                text.push(Buffer::new().format(UNIT).as_bytes());
+                text.push(b"\n");
+            }
+            Fault::TooMany => {
+                text.push(b"sg: changed group has more than ");
+                text.push(Buffer::new().format(MAX_OPERATORS).as_bytes());
+                text.push(b" operators\n");
+            }
             Fault::Writing => text.push(b"sg: writing failed\n"),
             Fault::NoMemory => text.push(b"sg: no memory\n"),
         }
@@ -103,6 +138,43 @@ impl From<CloseFault> for Fault {
         match stop {
             CloseFault::Unclosed => Fault::Unclosed,
             CloseFault::NoMemory => Fault::NoMemory,
+        }
+    }
+}
+
+impl From<GridFault> for Fault {
+    ghost from_gives = { λ stop fault. fault ≡ fault_of_grid stop };
+
+    fn from(stop: GridFault) -> Fault {
+        match stop {
+            GridFault::NotKept => Fault::NotKept,
+            GridFault::NoMemory => Fault::NoMemory,
+        }
+    }
+}
+
+impl From<ChangeFault> for Fault {
+    ghost from_gives = { λ stop fault. fault ≡ fault_of_change stop };
+
+    fn from(stop: ChangeFault) -> Fault {
+        match stop {
+            ChangeFault::Wide => Fault::TooWide,
+            ChangeFault::NoMemory => Fault::NoMemory,
+        }
+    }
+}
+
+impl From<RecellFault> for Fault {
+    ghost from_gives = { λ stop fault. fault ≡ fault_of_recell stop };
+
+    fn from(stop: RecellFault) -> Fault {
+        match stop {
+            RecellFault::NotCell => Fault::NotCell,
+            RecellFault::NotWhole => Fault::NotWhole,
+            RecellFault::Wide => Fault::TooWide,
+            RecellFault::Fine => Fault::TooFine,
+            RecellFault::Many => Fault::TooMany,
+            RecellFault::NoMemory => Fault::NoMemory,
         }
     }
 }

@@ -1,5 +1,16 @@
-ghost use Rattle.std.specs.Prelude.{◌≡◌, List, ℕ};
+ghost use Rattle.std.specs.Prelude.{◌≡◌, ◌≤◌, List, ℕ, length};
+ghost use Rattle.lattice_algebra.specs.Operator.{Operator};
+ghost use Rattle.lattice_algebra.specs.Point.{Point, IsPoint};
+ghost use Rattle.triplet_text.specs.Lines.{lines_of, AreRead};
+ghost use Rattle.phase_rules.specs.declared.pairs.Pairs.{Pairs};
+ghost use Rattle.reflections.specs.Boxes.{Box};
+ghost use Rattle.table_print.specs.Rows.{IsRowsText};
+ghost use Rattle.table_print.specs.Table.{IsTableText};
 ghost use Rattle.sg_cli.specs.Answer.{Answer, IsAnswer};
+ghost use Rattle.sg_cli.specs.Laws.{GenerateOneGroup, HaveOneText};
+ghost use Rattle.sg_cli.specs.Wyckoff.{IsTextOfRows, IsFitText};
+
+use crate::MAX_INPUT;
 
 /// Words and bytes have one answer at most.
 pub fn answer_is_unique()
@@ -9,5 +20,26 @@ pub fn answer_is_unique()
 
 /// Words and bytes have an answer, whatever they are.
 pub fn some_answer()
-    ensures { (words : List (List ℕ)) (bytes : List ℕ) → (answer : Answer) × IsAnswer words bytes answer }
+    ensures { (words : List (List ℕ)) (bytes : List ℕ)
+        → (answer : Answer) × IsAnswer words bytes answer }
+{}
+
+/// The answer is a function of the group: inputs whose operators generate one group have one answer to the same words.
+pub fn answer_of_one_group()
+    ensures { (words : List (List ℕ)) (bytes others : List ℕ) (list other : List Operator)
+        (a b : Answer) → length bytes ≤ MAX_INPUT → length others ≤ MAX_INPUT
+        → AreRead (lines_of bytes) list
+        → AreRead (lines_of others) other → GenerateOneGroup list other
+        → IsAnswer words bytes a → IsAnswer words others b → a ≡ b }
+{}
+
+/// The rows are a function of the group: lists of operators that generate one group have one text of the rows, one line of the row
+/// that a rational point fits, and one text of the table with a box.
+pub fn rows_of_one_group()
+    ensures wyckoff { HaveOneText (λ members. IsTextOfRows members (IsRowsText members)) }
+    ensures fit { (x : Point) → IsPoint x
+        → HaveOneText (λ members. IsTextOfRows members (IsFitText members x)) }
+    ensures table { (pairs : Pairs) (box : Box)
+        → HaveOneText (λ members. IsTextOfRows members
+        (λ rows. IsTableText pairs members rows box)) }
 {}

@@ -4,21 +4,32 @@
 //! Proved of `run`, clause by clause: status, output and fault text are those of the answer that the words and the bytes have.
 //! There is an answer to all words and bytes (`some_answer`), and one only (`answer_is_unique`). A refusal comes exactly where
 //! it is the first that applies; 3 and 4 come exactly where a read or a write failed in this call. Where nothing fails, the
-//! text is printed whole, or memory is wanted, which is status 9.
+//! text is printed whole, or memory is wanted, which is status 9. The rows that are printed are a Wyckoff table of the group
+//! that is asked about. For `sample` nothing is read, and all of it holds also where a source tells no bytes. Operators that generate one group have one answer (`answer_of_one_group`), and one text of rows
+//! (`rows_of_one_group`).
 #![tactic(auto)]
 
 mod answer;
+mod changes;
 mod fault;
 mod laws;
+mod numbers;
 mod words;
+mod wyckoff;
 
 pub use answer::{run, tell};
 pub use fault::Fault;
-pub use laws::{answer_is_unique, some_answer};
+pub use laws::{answer_is_unique, answer_of_one_group, rows_of_one_group, some_answer};
 pub use words::{Command, read_words};
 
 /// The most digits that a whole number among the words has.
 pub const NUMBER_DIGITS: usize = 9;
+
+/// The most digits that the denominator of a change of the cell has among the words.
+pub const CELL_DIGITS: usize = 2;
+
+/// The most digits that the seed of a made group has among the words.
+pub const SEED_DIGITS: usize = 10;
 
 /// The greatest number of bytes that an input may have.
 pub const MAX_INPUT: u32 = 1_048_576;

@@ -101,20 +101,13 @@ module _ (members : List Operator) (first : Walk) where
       way = one_part sink Whole old page (IsRest p.taken) mid more p.way (IsRest p.taken) IsNothing new next (nothing_before (IsRest p.taken)) g;
     }
 
-    module _ (empty : page ≡ []) where
-      pub printing_stopped : (now : Walk) (mid new : K) (more next : List ℕ) (stop : SinkStop) → IsPrinting now mid more → GathersText sink IsNothing mid new more next (Err stop) → Prints sink (IsBoxText first.pairs members first.size) old new (Err stop)
-      printing_stopped now mid new more next stop p g =
-          prints_stopped sink Whole old page empty new next stop
-          (stopped sink Whole old page (IsRest p.taken) mid more p.way (IsRest p.taken) IsNothing new next (nothing_before (IsRest p.taken)) stop (some_rest now p.taken p.walk p.size p.pairs) g)
+    pub printing_stopped : (now : Walk) (mid new : K) (more next : List ℕ) (stop : SinkStop) → IsPrinting now mid more → GathersText sink IsNothing mid new more next (Err stop) → GathersText sink (IsBoxText first.pairs members first.size) old new page next (Err stop)
+    printing_stopped now mid new more next stop p g = stopped sink Whole old page (IsRest p.taken) mid more p.way (IsRest p.taken) IsNothing new next (nothing_before (IsRest p.taken)) stop (some_rest now p.taken p.walk p.size p.pairs) g
 
-      -- no line is left, and the last page is handed over
-      pub all_printed : (now : Walk) (mid new : K) (more : List ℕ) (result : Result (Unit {0}) SinkStop) (p : IsPrinting now mid more) → IsClassList now.pairs members now.size p.taken
-          → OnOk result (Appends (SeenSink.held sink mid) (SeenSink.held sink new) more) → OnErr result (AppendsPrefix (SeenSink.held sink mid) (SeenSink.held sink new) more) → Counts sink mid new result
-          → Prints sink (IsBoxText first.pairs members first.size) old new result
-      all_printed now mid new more result p list ok err counts =
-          printed sink Whole old page empty mid new more result
-          (gathered_all sink Whole old page (IsRest p.taken) mid more p.way (record {
-            rest = [];
-            is_list = subst (IsClassList first.pairs members first.size) (sym (append-nil p.taken)) (nothing_left now p.taken p.size p.pairs list);
-            are_lines = AreLines.end;
-          })) ok err counts
+    -- no line is left
+    pub all_put : (now : Walk) (mid : K) (more : List ℕ) (p : IsPrinting now mid more) → IsClassList now.pairs members now.size p.taken → GathersText sink (IsBoxText first.pairs members first.size) old mid page more (Ok tt)
+    all_put now mid more p list = gathered_all sink Whole old page (IsRest p.taken) mid more p.way (record {
+      rest = [];
+      is_list = subst (IsClassList first.pairs members first.size) (sym (append-nil p.taken)) (nothing_left now p.taken p.size p.pairs list);
+      are_lines = AreLines.end;
+    })

@@ -3,3 +3,11 @@ pub mod SitePages
 pub mod TypeLines
 pub mod ClassTexts
 pub mod ClassPages
+pub mod GridTexts
+pub mod GridPages
+mod RowSizes
+mod RowPages
+mod PartTexts
+pub mod TablePages
+mod RowLines
+mod SampleTexts

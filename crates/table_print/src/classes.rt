@@ -1,7 +1,7 @@
 ghost use Rattle.std.specs.Prelude.{◌≡◌, ◌≤◌, ◌+◌, ◌++◌, [], List, OnOk, length};
 ghost use Rattle.page_print.specs.declared.page.TheConstants.{PAGE_ROOM};
 ghost use Rattle.page_print.specs.Lines.{AddsSuch};
-ghost use Rattle.page_print.specs.Printing.{Prints};
+ghost use Rattle.page_print.specs.Printing.{Prints, GathersText};
 ghost use Rattle.reflections.specs.declared.line.ClassLine.{ClassLine};
 ghost use Rattle.reflections.specs.Walks.{IsWalk};
 ghost use Rattle.table_print.specs.Classes.{mark_text, row_text, IsClassText, IsIndexText, IsBoxText, IsOver};
@@ -22,7 +22,7 @@ const MARK_TEXT: usize = 9;
 const ROW_TEXT: usize = 35;
 
 /// The most bytes that a line has: these, two counts of at most five digits, three blanks and the line feed.
-const CLASS_LINE: usize = ROW_TEXT + MARK_TEXT + 14;
+pub const CLASS_LINE: usize = ROW_TEXT + MARK_TEXT + 14;
 
 /// Writes the line of the command `index`: the index, its class size, how many operators fix it, and its mark. It takes no
 /// memory. After an Err a prefix of the line is written.
@@ -61,11 +61,30 @@ pub fn print_classes<K: Sink>(
         × IsOver group.now list.old list.new taken) }
 {
     let mut page = Page::new();
-    while let Some(line) = list.next(group) {
-        push_class(&line, &mut page);
-        make_room(CLASS_LINE, &mut page, sink)?;
-    }
+    put_classes(group, list, &mut page, sink)?;
     put_all(sink, page.bytes())
+}
+
+/// Adds the lines of all classes to the page, which has room for one, and hands it over each time that the next one may not fit.
+pub fn put_classes<K: Sink>(
+    group: &Group,
+    list: &mut ClassList,
+    page: &mut Page,
+    sink: &mut K,
+) -> Result<(), SinkStop>
+    requires unused { IsWalk group.now list.old [] }
+    requires room { length page.old + CLASS_LINE ≤ PAGE_ROOM }
+    ensures gathers { GathersText K.seen (IsBoxText list.old.pairs group.now list.old.size)
+        sink.old sink.new page.old page.new result }
+    ensures walk { (taken : List ClassLine) × IsWalk group.now list.new taken }
+    ensures over { OnOk result ((taken : List ClassLine)
+        × IsOver group.now list.old list.new taken) }
+{
+    while let Some(line) = list.next(group) {
+        push_class(&line, page);
+        make_room(CLASS_LINE, page, sink)?;
+    }
+    Ok(())
 }
 
 fn push_class(line: &ClassLine, page: &mut Page)

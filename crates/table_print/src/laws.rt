@@ -1,33 +1,44 @@
-ghost use Rattle.std.specs.Prelude.{◌≡◌, ℕ, List};
+ghost use Rattle.std.specs.Prelude.{◌≡◌, ◌+◌, ◌<◌, ◌^◌, ℕ, List};
 ghost use Rattle.std.specs.List.{Contains};
 ghost use Rattle.lattice_algebra.specs.Operator.{Operator};
 ghost use Rattle.lattice_algebra.specs.Map.{Map};
 ghost use Rattle.lattice_algebra.specs.Point.{Point};
 ghost use Rattle.group_closure.specs.GroupList.{IsGroup};
 ghost use Rattle.phase_rules.specs.declared.pairs.Pairs.{Pairs};
-ghost use Rattle.phase_rules.specs.Rows.{Row};
+ghost use Rattle.phase_rules.specs.Rows as indices;
+ghost use Rattle.space_groups.specs.Rows.{Row};
 ghost use Rattle.reflections.specs.Boxes.{Box};
+ghost use Rattle.grid_tags.specs.Grids.{Grid, IsGridInRange, IsKept};
+ghost use Rattle.triplet_text.specs.Printing.{IsPrintable, IsSameMap};
 ghost use Rattle.table_print.specs.Types.{IsTypeLine};
 ghost use Rattle.table_print.specs.Sites.{IsSiteText};
 ghost use Rattle.table_print.specs.Classes.{IsIndexText, IsBoxText};
+ghost use Rattle.table_print.specs.Grids.{IsGridText};
+ghost use Rattle.table_print.specs.Rows.{numbers_of_key, row_line};
+ghost use Rattle.table_print.specs.Table.{IsTableText};
+
+use triplet_text::affine_text_has_one_map;
 
 /// Each member of a group has a line of its type, and no operator has two.
 pub fn one_type_line()
-    ensures some { (members : List Operator) (f : Operator) → IsGroup members → Contains members f → (line : List ℕ) × IsTypeLine f line }
+    ensures some { (members : List Operator) (f : Operator) → IsGroup members
+        → Contains members f → (line : List ℕ) × IsTypeLine f line }
     ensures one { (f : Operator) (l m : List ℕ) → IsTypeLine f l → IsTypeLine f m → l ≡ m }
 {}
 
 /// A site-symmetry group and an orbit have a text, and one only.
 pub fn one_site_text()
-    ensures some { (site : List Map) (orbit : List Point) → (text : List ℕ) × IsSiteText site orbit text }
-    ensures one { (site : List Map) (orbit : List Point) (s t : List ℕ) → IsSiteText site orbit s → IsSiteText site orbit t → s ≡ t }
+    ensures some { (site : List Map) (orbit : List Point)
+        → (text : List ℕ) × IsSiteText site orbit text }
+    ensures one { (site : List Map) (orbit : List Point) (s t : List ℕ)
+        → IsSiteText site orbit s → IsSiteText site orbit t → s ≡ t }
 {}
 
 /// An index has a line, and one only.
 pub fn one_index_text()
-    ensures some { (pairs : Pairs) (members : List Operator) (h : Row)
+    ensures some { (pairs : Pairs) (members : List Operator) (h : indices.Row)
         → (text : List ℕ) × IsIndexText pairs members h text }
-    ensures one { (pairs : Pairs) (members : List Operator) (h : Row) (s t : List ℕ)
+    ensures one { (pairs : Pairs) (members : List Operator) (h : indices.Row) (s t : List ℕ)
         → IsGroup members → IsIndexText pairs members h s → IsIndexText pairs members h t
         → s ≡ t }
 {}
@@ -39,4 +50,36 @@ pub fn one_box_text()
     ensures one { (pairs : Pairs) (members : List Operator) (box : Box) (s t : List ℕ)
         → IsGroup members → IsBoxText pairs members box s → IsBoxText pairs members box t
         → s ≡ t }
+{}
+
+/// A grid that a group keeps has a text of its grid list, and one only.
+pub fn one_grid_text()
+    ensures some { (members : List Operator) (grid : Grid) → IsGroup members
+        → IsGridInRange grid → IsKept members grid
+        → (text : List ℕ) × IsGridText members grid text }
+    ensures one { (members : List Operator) (grid : Grid) (s t : List ℕ) → IsGroup members
+        → IsGridInRange grid → IsKept members grid → IsGridText members grid s
+        → IsGridText members grid t → s ≡ t }
+{}
+
+/// The line of a row has the row's numbers: rows with one line stand at one place, have one number of points, and their keys
+/// are one map.
+pub fn one_row_of_line()
+    ensures { (n m j k : ℕ) (r s : Row) → j + 1 < 2 ^ 64 → k + 1 < 2 ^ 64 → r.mult < 2 ^ 64
+        → s.mult < 2 ^ 64 → IsPrintable n (numbers_of_key r.key)
+        → IsPrintable m (numbers_of_key s.key)
+        → row_line n j r ≡ row_line m k s → (j ≡ k) × (r.mult ≡ s.mult)
+        × IsSameMap n (numbers_of_key r.key) m (numbers_of_key s.key) }
+{
+    affine_text_has_one_map();
+}
+
+/// Rows and a box have a text of the command `table`, and one only.
+pub fn one_table_text()
+    ensures some { (pairs : Pairs) (members : List Operator) → IsGroup members
+        → (rows : List Row) (box : Box) → (text : List ℕ)
+        × IsTableText pairs members rows box text }
+    ensures one { (pairs : Pairs) (members : List Operator) → IsGroup members
+        → (rows : List Row) (box : Box) (s t : List ℕ) → IsTableText pairs members rows box s
+        → IsTableText pairs members rows box t → s ≡ t }
 {}

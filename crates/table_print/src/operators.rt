@@ -13,7 +13,7 @@ use sg_io::{Sink, SinkStop};
 use triplet_text::{TEXT_ROOM, print_triplet};
 
 /// The most bytes that the line of an operator has.
-const OPERATOR_LINE: usize = TEXT_ROOM + 1;
+pub const OPERATOR_LINE: usize = TEXT_ROOM + 1;
 
 /// Writes the lines of the command `ops`: one for each operator of the group, in its order. It takes no memory. After an
 /// Err a prefix of the lines is written.
@@ -23,9 +23,10 @@ pub fn print_ops<K: Sink>(group: &Group, sink: &mut K) -> Result<(), SinkStop>
     print_listed(&OperatorLines { group }, sink)
 }
 
+/// The lines of the operators of a group.
 #[derive(Drop)]
-struct OperatorLines<'a> {
-    group: &'a Group,
+pub struct OperatorLines<'a> {
+    pub group: &'a Group,
 }
 
 impl Listed for OperatorLines<'_> {

@@ -27,7 +27,7 @@ const PART_TEXT: usize = 3 * TEXT_ROOM + 2;
 const AXIS_TEXT: usize = 35;
 
 /// The most bytes that a line has: the operator and these, three blanks and the line feed.
-const TYPE_LINE: usize = TEXT_ROOM + KIND_TEXT + PART_TEXT + AXIS_TEXT + 4;
+pub const TYPE_LINE: usize = TEXT_ROOM + KIND_TEXT + PART_TEXT + AXIS_TEXT + 4;
 
 /// Writes the lines of the command `types`: for each operator of the group, in its order, the operator, its kind, its
 /// intrinsic part in fractions of the basis vectors, and its axis. It takes no memory. After an Err a prefix of the lines is
@@ -38,9 +38,10 @@ pub fn print_types<K: Sink>(group: &Group, sink: &mut K) -> Result<(), SinkStop>
     print_listed(&TypeLines { group }, sink)
 }
 
+/// The lines of the types of the operators of a group.
 #[derive(Drop)]
-struct TypeLines<'a> {
-    group: &'a Group,
+pub struct TypeLines<'a> {
+    pub group: &'a Group,
 }
 
 impl Listed for TypeLines<'_> {
@@ -69,7 +70,8 @@ impl Listed for TypeLines<'_> {
 fn push_type(group: &Group, i: u8, page: &mut Page)
     requires within { i < length group.now }
     requires room { length page.old + TYPE_LINE ≤ PAGE_ROOM }
-    ensures { (f : Operator) → slice_get group.now i ≡ Some f → AddsSuch (IsTypeLine f) page.old page.new }
+    ensures { (f : Operator) → slice_get group.now i ≡ Some f
+        → AddsSuch (IsTypeLine f) page.old page.new }
 {
     page.push(print_triplet(&group.op(i)).bytes());
     page.push(b" ");

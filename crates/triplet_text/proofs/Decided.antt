@@ -1,4 +1,4 @@
--- Which texts are coordinates, and which lines are good, is decided: so lines are read, or one of them is the first bad one.
+-- Which texts are coordinates or triplets, and which lines are good, is decided: so lines are read, or one of them is the first bad one.
 use Rattle.std.proofs.Common.{◌≡◌, ◌⊎◌, ◌+◌, ◌≤◌, ℕ, ℤ, pos, negsuc, List, [], ◌∷◌, length, Option, Some, None, int_eq, refl, sym, ap, ◌∙◌, arith, inl, inr, ⊎_elim}
 use Rattle.std.specs.Cmp.{signed_Decides}
 use Rattle.std.proofs.lemmas.Bool.{cases_Bool, cases_lt, false≢true}
@@ -10,6 +10,7 @@ use Rattle.triplet_text.specs.declared.coordinate.TheConstants.{COORDINATE_LENGT
 use Rattle.triplet_text.specs.Coordinates.{IsCoordinate, signed_of}
 use Rattle.triplet_text.specs.Pieces.{is_skipped}
 use Rattle.triplet_text.specs.Triplets.{triplet_of}
+use Rattle.triplet_text.specs.Grammar.{IsTriplet}
 use Rattle.triplet_text.specs.Lines.{IsSkipped, IsGood, AreRead, end, skipped, read, IsFirstBad, IsUnreadable, IsNotUnimodular}
 use Rattle.triplet_text.proofs.CoordinateLaw.{coordinate_to, coordinate_from, too_long}
 use Rattle.triplet_text.proofs.GrammarLaw.{triplet_to, triplet_from}
@@ -27,9 +28,21 @@ found_or_none text None short e = inr (λ n d h. let k = coordinate_to text n d 
 pub coordinate_or_none : (text : List ℕ) → CoordinateOrNone text
 coordinate_or_none text = ⊎_elim (λ long. inr (λ n d h. too_long text long (n, d, h))) (λ short. found_or_none text (signed_of text) short refl) (cases_lt COORDINATE_LENGTH (length text))
 
+-- ---- triplets
+
+abbrev pub TripletOrNone : List ℕ → Type 0
+TripletOrNone text = ((f : Operator) × IsTriplet text f) ⊎ ((f : Operator) → IsTriplet text f → ⊥)
+
+pub triplet_or_none : (text : List ℕ) → TripletOrNone text
+triplet_or_none text = by (triplet_of text) refl
+  where
+    by : (o : Option Operator) → triplet_of text ≡ o → TripletOrNone text
+    by (Some f) e = inl (f, triplet_from text f e)
+    by None e = inr (λ f t. let k = triplet_to text f t in absurd cc)
+
 -- ---- lines
 
-unimodular_or_not : (m : Matrix) → IsUnimodular m ⊎ (IsUnimodular m → ⊥)
+pub unimodular_or_not : (m : Matrix) → IsUnimodular m ⊎ (IsUnimodular m → ⊥)
 unimodular_or_not m = by (is (pos 1)) (is (negsuc 0))
   where
     is : (d : ℤ) → (det m ≡ d) ⊎ (det m ≡ d → ⊥)

@@ -5,7 +5,7 @@ mod Ranges
 mod Values
 mod TermTexts
 mod SumTexts
-mod GrammarLaw
+pub mod GrammarLaw
 mod Components
 mod ReadBack
 mod Written
@@ -22,7 +22,7 @@ mod AffineBytes
 mod AffineUnique
 mod AffineValues
 mod AffineSame
-mod LineSteps
+pub mod LineSteps
 pub mod LineLaws
 mod Examples
 pub mod Decided

@@ -25,7 +25,8 @@ pub fn lowest_terms(n: u128, d: u128) -> Text
     requires { 0 < d }
     ensures text { result ≡ fraction_text n d }
     ensures short { length result ≤ 81 }
-    ensures small { (k l : ℕ) → 0 < k → 0 < l → n < 10 ^ k → d < 10 ^ l → length result ≤ k + 1 + l }
+    ensures small { (k l : ℕ) → 0 < k → 0 < l
+        → n < 10 ^ k → d < 10 ^ l → length result ≤ k + 1 + l }
 {
     let g = greatest_common_divisor(n, d);
     quotient(n / g, d / g)

@@ -16,12 +16,14 @@ pub fn triplet_is_unique()
 /// inverse.
 pub fn lines_are_read_or_bad()
     ensures { (lines : List (List ℕ)) → ((list : List Operator) × AreRead lines list)
-        ⊎ (((k : ℕ) × IsFirstBad IsUnreadable lines k) ⊎ ((k : ℕ) × IsFirstBad IsNotUnimodular lines k)) }
+        ⊎ (((k : ℕ) × IsFirstBad IsUnreadable lines k)
+        ⊎ ((k : ℕ) × IsFirstBad IsNotUnimodular lines k)) }
 {}
 
 /// A text is a coordinate with one numerator and one denominator at most.
 pub fn coordinate_is_unique()
-    ensures { (text : List ℕ) (n d m e : ℤ) → IsCoordinate text n d → IsCoordinate text m e → (n ≡ m) × (d ≡ e) }
+    ensures { (text : List ℕ) (n d m e : ℤ) → IsCoordinate text n d
+        → IsCoordinate text m e → (n ≡ m) × (d ≡ e) }
 {}
 
 /// The text of a fraction has its value: a whole number, or two numbers in lowest terms. Every fraction in the machine is in
@@ -32,12 +34,14 @@ pub fn fraction_text_has_value()
 
 /// Fractions with one value have one text.
 pub fn equal_fractions_have_one_text()
-    ensures { (n m d e : ℤ) → pos 0 <ℤ d → pos 0 <ℤ e → n *ℤ e ≡ m *ℤ d → frac_text n d ≡ frac_text m e }
+    ensures { (n m d e : ℤ) → pos 0 <ℤ d → pos 0 <ℤ e
+        → n *ℤ e ≡ m *ℤ d → frac_text n d ≡ frac_text m e }
 {}
 
 /// Affine maps with one text have equal numbers.
 pub fn affine_text_has_one_map()
-    ensures { (d e : ℕ) (f g : Operator) → IsPrintable d f → IsPrintable e g → affine_text d f ≡ affine_text e g → IsSameMap d f e g }
+    ensures { (d e : ℕ) (f g : Operator) → IsPrintable d f
+        → IsPrintable e g → affine_text d f ≡ affine_text e g → IsSameMap d f e g }
 {}
 
 /// The text of an affine map has the map's numbers: n / d before each letter, and n / (`UNIT` d) as a constant, in lowest
@@ -48,10 +52,12 @@ pub fn affine_text_has_values()
 
 /// A text has the values of one affine map at most.
 pub fn affine_text_is_unique()
-    ensures { (d e : ℕ) (text : List ℕ) (f g : Operator) → IsAffineText d text f → IsAffineText e text g → IsSameMap d f e g }
+    ensures { (d e : ℕ) (text : List ℕ) (f g : Operator)
+        → IsAffineText d text f → IsAffineText e text g → IsSameMap d f e g }
 {}
 
 /// An affine map has one text, whatever number it is written over.
 pub fn affine_map_has_one_text()
-    ensures { (d e : ℕ) (f g : Operator) → 0 < d → 0 < e → IsSameMap d f e g → affine_text d f ≡ affine_text e g }
+    ensures { (d e : ℕ) (f g : Operator) → 0 < d → 0 < e
+        → IsSameMap d f e g → affine_text d f ≡ affine_text e g }
 {}

@@ -45,7 +45,8 @@ pub fn read_lines(alloc: Global, bytes: &[u8]) -> Result<OpList, LineFault>
 fn cut_line(bytes: &[u8]) -> (&[u8], Option<&[u8]>)
     ensures lines { MatchOption result.1 (lines_of bytes.now ≡ result.0.now ∷ [])
         (λ more. lines_of bytes.now ≡ result.0.now ∷ lines_of more.now) }
-    ensures shorter { MatchOption result.1 (result.0.now ≡ bytes.now) (λ more. length more.now < length bytes.now) }
+    ensures shorter { MatchOption result.1 (result.0.now ≡ bytes.now)
+        (λ more. length more.now < length bytes.now) }
 {
     match first_feed(bytes) {
         None => (bytes, None),

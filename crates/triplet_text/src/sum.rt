@@ -44,7 +44,8 @@ fn until_sign(text: &[u8]) -> (&[u8], &[u8])
 /// The term before the first sign: none is needed where a sign follows.
 fn first_term(first: &[u8], rest: &[u8]) -> Option<Component>
     requires { StartsWithSign rest.now }
-    ensures value { option_and_then (λ a. total a (behind_signs rest.now)) result ≡ sum_by first.now (behind_signs rest.now) }
+    ensures value { option_and_then (λ a. total a (behind_signs rest.now)) result
+        ≡ sum_by first.now (behind_signs rest.now) }
     ensures small { IfSome result (IsSumOf 1) }
 {
     if !rest.is_empty() && is_all_blank(first) {

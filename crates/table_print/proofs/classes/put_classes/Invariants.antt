@@ -3,11 +3,11 @@ use Rattle.page_print.specs.declared.page.TheConstants.{PAGE_ROOM}
 use Rattle.reflections.specs.Boxes.{places}
 use Rattle.table_print.specs.declared.classes.TheConstants.{CLASS_LINE}
 use Rattle.table_print.proofs.ClassPages.{IsPrinting}
-use Rattle.table_print.proofs.classes.print_classes.Given as goal
+use Rattle.table_print.proofs.classes.put_classes.Given as goal
 
 abbrev pub invariant-loop-line : goal.invariant-loop-line
 invariant-loop-line g l = record {
-  printing : IsPrinting l.group l.fn.list g.K.Sink.seen l.fn.sink l.initial.page l.list l.sink l.page;
+  printing : IsPrinting l.group l.fn.list g.K.Sink.seen l.fn.sink l.fn.page l.list l.sink l.page;
   room : length l.page + CLASS_LINE ≤ PAGE_ROOM;
 }
 

@@ -1,0 +1,6 @@
+mod Enclosed
+mod EnclosedTests
+mod Sets
+pub mod Triplets
+mod CountSteps
+mod MadePoints
