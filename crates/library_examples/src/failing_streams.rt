@@ -8,7 +8,7 @@ use std::test::Fail;
 
 const INVERSION: &[u8] = b"-x,-y,-z";
 
-fn words_of(alloc: Global, texts: &[&str]) -> Result<Vec<String>, Fail> {
+pub fn words_of(alloc: Global, texts: &[&str]) -> Result<Vec<String>, Fail> {
     let mut words = Vec::new(alloc);
     for text in texts {
         words.push(String::from_str(alloc, text)?)?;
@@ -69,8 +69,21 @@ fn an_empty_input_is_read_once(rt: HostRuntime) -> Result<(), Fail> {
     reads(&rt, alloc, source_of(alloc, b"", 5, 1)?, Some(b"x,y,z\n"))
 }
 
+/// The rows of P-1.
+const ROWS: &[u8] = b"\
+    1 2 x,y,z\n\
+    2 1 0,0,0\n\
+    3 1 0,0,1/2\n\
+    4 1 0,1/2,0\n\
+    5 1 0,1/2,1/2\n\
+    6 1 1/2,0,0\n\
+    7 1 1/2,0,1/2\n\
+    8 1 1/2,1/2,0\n\
+    9 1 1/2,1/2,1/2\n\
+";
+
 /// Words, an input, and what is printed.
-const TEXTS: [(&[&str], &[u8], &[u8]); 3] = [
+const TEXTS: [(&[&str], &[u8], &[u8]); 4] = [
     (&["ops"], INVERSION, b"x,y,z\n-x,-y,-z\n"),
     (
         &["types"],
@@ -93,6 +106,7 @@ const TEXTS: [(&[&str], &[u8], &[u8]); 3] = [
         at 9/10 4/5 7/10\n\
     ",
     ),
+    (&["wyckoff"], INVERSION, ROWS),
 ];
 
 /// Each write takes a byte. What stands before the one that fails is printed.
@@ -111,6 +125,21 @@ fn a_write_that_fails_is_status_4(rt: HostRuntime) -> Result<(), Fail> {
             assert_eq!(rt; err.held(), b"sg: writing failed\n".as_slice());
         }
     }
+    Ok(())
+}
+
+/// Two writes take four bytes each, and the third fails.
+#[test]
+fn rows_of_which_eight_bytes_were_taken(rt: HostRuntime) -> Result<(), Fail> {
+    let alloc = rt.alloc();
+    let mut source = source_of(alloc, INVERSION, 100, 100)?;
+    let mut out = sink_of(alloc, 4, 2)?;
+    let mut err = NoFailSink::new(alloc, 100);
+    let words = words_of(alloc, &["wyckoff"])?;
+    let status = run(alloc, &words, &mut source, &mut out, &mut err);
+    assert_eq!(rt; status, 4);
+    assert_eq!(rt; out.held(), &ROWS[..8]);
+    assert_eq!(rt; err.held(), b"sg: writing failed\n".as_slice());
     Ok(())
 }
 

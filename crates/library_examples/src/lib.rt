@@ -3,6 +3,10 @@
 #![tactic(auto)]
 
 #[cfg(test)]
+mod averages;
+#[cfg(test)]
+mod bases;
+#[cfg(test)]
 mod failing_streams;
 #[cfg(test)]
 mod groups;
@@ -10,5 +14,7 @@ mod groups;
 mod kinds;
 #[cfg(test)]
 mod library_calls;
+#[cfg(test)]
+mod odd_inputs;
 #[cfg(test)]
 mod std_streams;
