@@ -30,4 +30,10 @@ mean 'ops, Fm-3m (192 operators)' "$runs" examples/fm-3m.txt "$sg" ops
 mean 'types, Fm-3m (192 operators)' "$runs" examples/fm-3m.txt "$sg" types
 mean 'site 0 0 0, Fm-3m (192 operators)' "$runs" examples/fm-3m.txt "$sg" site 0 0 0
 mean 'site 0.11 0.22 0.35, Fm-3m' "$runs" examples/fm-3m.txt "$sg" site 0.11 0.22 0.35
+mean 'refl 63 63 63, Fm-3m' "$((runs / 10 + 1))" examples/fm-3m.txt "$sg" refl 63 63 63
+mean 'refl 63 63 63, P2_1/c' "$((runs / 10 + 1))" examples/p21c.txt "$sg" refl 63 63 63
+mean 'grid 128 128 128, Fm-3m' "$((runs / 10 + 1))" examples/fm-3m.txt "$sg" grid 128 128 128
+mean 'grid 128 128 128, P-1' "$((runs / 10 + 1))" examples/p-1.txt "$sg" grid 128 128 128
+mean 'basis x+1/8,y,z, Fm-3m' "$runs" examples/fm-3m.txt "$sg" basis x+1/8,y,z
+mean 'recell to the primitive cell, Fm-3m' "$runs" examples/fm-3m.txt "$sg" recell 1 -x+y+z,x-y+z,x+y-z
 mean 'ops, 174,762 equal lines' "$((runs / 10 + 1))" "$most" "$sg" ops

@@ -229,7 +229,7 @@ closed_standard_error() {
     expect_texts 'help with a closed standard error' 2 '' ''
 }
 
-# Where the words are no command, the next reader finds the whole input.
+# Where the words are no command, or read nothing, the next reader finds the whole input.
 unread_input() {
     local left='status 2\nx,y,z\n-x,-y,-z\n'
     printf 'x,y,z\n-x,-y,-z\n' >"$made/input"
@@ -238,6 +238,8 @@ unread_input() {
     expect_texts 'a file stays unread' 0 "$left" "$refused"
     { "$sg" help 2>"$made/told"; echo "status $?"; cat; } < <(cat "$made/input") >"$made/printed"
     expect_texts 'a pipe stays unread' 0 "$left" "$refused"
+    { "$sg" sample 0 2>"$made/told"; echo "status $?"; cat; } <"$made/input" >"$made/printed"
+    expect_texts 'a file stays unread by sample' 0 'group 1 operators 1\n1 1 x,y,z 1000\nstatus 0\nx,y,z\n-x,-y,-z\n' ''
 }
 
 other_ways_to_call() {

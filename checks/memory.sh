@@ -1,40 +1,42 @@
 #!/usr/bin/env bash
 # Lets each allocation of a call fail in turn: the status is 9, the fault text is told, and nothing is printed. Where no
-# allocation fails any more, the status is 0. By hand, never part of the gate: each call is built anew, and takes some 15
-# seconds.
+# allocation is left to fail, the status is 0. By hand, never part of the gate. A C compiler makes what stands before the allocator.
 #
 #     bash checks/memory.sh
 set -u
-cd "$(dirname "${BASH_SOURCE[0]}")/../crates/sg" || exit 1
-told=$(mktemp)
-printed=$(mktemp)
-trap 'rm -f "$told" "$printed"' EXIT
+cd "$(dirname "${BASH_SOURCE[0]}")/.." || exit 1
+program=crates/sg/out/sg
+made=$(mktemp -d) || exit 1
+trap 'rm -rf "$made"' EXIT
 passed=0
 failed=0
 
+cc -O2 -shared -fPIC -o "$made/fail_malloc.so" checks/fail_malloc.c -ldl || exit 1
+bin/sg ops </dev/null >/dev/null || exit 1
+
 # fail_each INPUT WORD..
 fail_each() {
-    local input=$1 n=0 status
+    local input=examples/$1 n=0 status
     shift
     while n=$((n + 1)); do
-        rt try --fail-alloc "$n" -- "$@" <"../../examples/$input" >"$printed" 2>"$told"
+        rm -f "$made/failed"
+        FAIL_ALLOCATION=$n FAILED=$made/failed LD_PRELOAD=$made/fail_malloc.so \
+            "$program" "$@" <"$input" >"$made/printed" 2>"$made/told"
         status=$?
-        if [ "$status" -eq 0 ] && [ -s "$printed" ]; then
-            echo "$*, $input: $((n - 1)) allocations, each of which failed in turn"
-            return
-        fi
-        if [ "$status" -eq 9 ] && [ ! -s "$printed" ] && grep -qx 'sg: no memory' "$told"; then
+        [ -e "$made/failed" ] || break
+        if [ "$status" -eq 9 ] && [ ! -s "$made/printed" ] && grep -qx 'sg: no memory' "$made/told"; then
             passed=$((passed + 1))
         else
             failed=$((failed + 1))
             echo "$*, $input: allocation $n: status $status"
         fi
-        if [ "$n" -ge 100 ]; then
-            failed=$((failed + 1))
-            echo "$*, $input: no end"
-            return
-        fi
     done
+    if [ "$status" -eq 0 ] && [ -s "$made/printed" ]; then
+        echo "$*, $input: $((n - 1)) allocations, each of which failed in turn"
+    else
+        failed=$((failed + 1))
+        echo "$*, $input: status $status where no allocation fails"
+    fi
 }
 
 fail_each p21c.txt ops
@@ -42,5 +44,14 @@ fail_each fm-3m.txt ops
 fail_each p21c.txt types
 fail_each p-1.txt site 1/2 0 0
 fail_each p6mmm.txt site 1/3 2/3 0
+fail_each p21c.txt wyckoff
+fail_each p21c.txt fit 0 0 0
+fail_each p21c.txt table 1 1 1
+fail_each p21c.txt index 1 0 0
+fail_each p21c.txt refl 1 1 1
+fail_each p-1.txt grid 3 2 1
+fail_each p21c.txt basis x-z,y,z
+fail_each p-1.txt sample 1
+fail_each fm-3m.txt recell 1 -x+y+z,x-y+z,x+y-z
 echo "memory: $passed passed, $failed failed"
 [ "$failed" -eq 0 ]
