@@ -13,9 +13,9 @@ use Rattle.space_groups.proofs.Blocks.{block_path}
 use Rattle.space_groups.proofs.Ordered.{not_below_itself, below_on, not_before_itself, before_on}
 use Rattle.space_groups.proofs.Keys.{shifted_block, carried_shift}
 use Rattle.affine_sets.specs.declared.keys.Sizes.{Sizes}
-use Rattle.affine_sets.specs.Averages.{KeyOver}
+use Rattle.affine_sets.specs.Averages.{KeyOver, IsKeyInCell}
 use Rattle.affine_sets.specs.Conjugates.{block_of_key, turned_matrix, carried_key, moved_key, key_by, AreEnoughFor, shift_number, IsCandidate, IsNoLater, AreNotBefore, IsGreatestBefore}
-use Rattle.affine_sets.proofs.KeyWalk.{moved_carried, moved_matrix, before_is_below, each_number, carried_key_matrix}
+use Rattle.affine_sets.proofs.KeyWalk.{unmoved, moved_carried, moved_matrix, before_is_below, each_number, carried_key_matrix}
 
 -- ---- whole shifts
 
@@ -27,7 +27,7 @@ pub record IsFirstUpTo (base best first : KeyOver) (q : Sizes) (i : ℕ) : Type 
   pub earlier : IsNoLater first best
   pub behind : (j : ℕ) → j < i → ComesBefore (moved_key base (shift_number q j)) first.key → ⊥
 
-pub first_of_none : (base best : KeyOver) (q : Sizes) → best.over ≡ base.over → best.key.m ≡ base.key.m → IsFirstUpTo base best best q 0
+first_of_none : (base best : KeyOver) (q : Sizes) → best.over ≡ base.over → best.key.m ≡ base.key.m → IsFirstUpTo base best best q 0
 first_of_none base best q o m = record { over = o; matrix = m; origin = inl refl; earlier = λ k l. l; behind = λ j l b. absurd (omega (arith, l)) }
 
 one_further : (P : ℕ → Type 0) (i : ℕ) → ((j : ℕ) → j < i → P j) → P i → (j : ℕ) → j < i + 1 → P j
@@ -58,6 +58,17 @@ first_kept base best first next q i h e b =
       behind = one_further (λ j. ComesBefore (moved_key base (shift_number q j)) first.key → ⊥) i h.behind
           (λ c. b (before_is_below next.key first.key (m ∙ sym h.matrix) (subst (λ k. ComesBefore k first.key) (sym e) c)));
     }
+
+-- the conjugate itself, or what was best before it
+pub one_of_two : (base best first : KeyOver) (q : Sizes) → IsKeyInCell base → best.over ≡ base.over → best.key.m ≡ base.key.m
+    → ((first ≡ base) × IsBelow (coordinates base.key.t) (coordinates best.key.t)) ⊎ ((first ≡ best) × (IsBelow (coordinates base.key.t) (coordinates best.key.t) → ⊥)) → IsFirstUpTo base best first q 1
+one_of_two base best first q c o m h =
+    let none = first_of_none base best q o m in
+    let is = unmoved base q c in
+    ⊎_elim
+    (λ r. subst (λ v. IsFirstUpTo base best v q 1) (sym r.0) (first_replaced base best best base q 0 none refl is r.1))
+    (λ r. subst (λ v. IsFirstUpTo base best v q 1) (sym r.0) (first_kept base best best base q 0 none is r.1))
+    h
 
 -- ---- the members of a run
 

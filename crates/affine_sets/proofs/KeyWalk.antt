@@ -2,12 +2,13 @@
 use Rattle.std.proofs.Common.{◌≡◌, ◌++◌, ◌∷◌, ◌<◌, ◌+◌, ◌*◌, ◌/◌, ◌%◌, ℕ, ℤ, pos, negsuc, ◌*ℤ◌, List, Some, length, inl, inr, ap, sym, refl, subst, ◌∙◌, arith}
 use Rattle.std.proofs.lemmas.Int.{ints}
 use Rattle.std.proofs.lemmas.Nat.{div-mul-add, mod-mul-add, mul-add-lt}
+use Rattle.std.proofs.Math.Nat.{zero-div, zero-mod}
 use Rattle.std.proofs.lemmas.Option.{slice_get-get_or}
-use Rattle.lattice_algebra.specs.Matrix.{Matrix, Column, entries, coordinates, inverse_matrix, ◌·◌, ◌·ᶜ◌, ◌+ᶜ◌, neg_column, times}
+use Rattle.lattice_algebra.specs.Matrix.{Matrix, Column, entries, coordinates, origin, inverse_matrix, ◌·◌, ◌·ᶜ◌, ◌+ᶜ◌, neg_column, times}
 use Rattle.lattice_algebra.specs.Operator.{Operator, IsPart, modulo}
 use Rattle.lattice_algebra.specs.Map.{Map, map_of, undo}
 use Rattle.lattice_algebra.proofs.Ring.{var, con, ◌⊗◌}
-use Rattle.lattice_algebra.proofs.MatrixRing.{matrix_at, column_at, ◌·ˢ◌, ◌·ˢᶜ◌, ◌+ˢᶜ◌, sym_times, sym_neg, column_ring}
+use Rattle.lattice_algebra.proofs.MatrixRing.{matrix_at, column_at, ◌·ˢ◌, ◌·ˢᶜ◌, ◌+ˢᶜ◌, sym_times, sym_neg, sym_origin, column_ring}
 use Rattle.lattice_algebra.proofs.Remainders.{modulo_same, modulo_part, modulo_parts}
 use Rattle.lattice_algebra.proofs.Numbers.{positive_product}
 use Rattle.exact_ops.specs.declared.TheConstants.{UNIT}
@@ -26,7 +27,7 @@ use Rattle.space_groups.proofs.Keys.{key_path, carried_rest, shifted_block, carr
 use Rattle.space_groups.proofs.KeyCandidates.{AreBelow, key_from_operators}
 use Rattle.site_symmetry.proofs.SpaceOfGroup.{space_of}
 use Rattle.affine_sets.specs.declared.keys.Sizes.{Sizes}
-use Rattle.affine_sets.specs.Averages.{KeyOver}
+use Rattle.affine_sets.specs.Averages.{KeyOver, IsKeyInCell}
 use Rattle.affine_sets.specs.Conditions.{IsAverage}
 use Rattle.affine_sets.specs.Conjugates.{block_of_key, IsLeftOf, turned_matrix, carried_key, moved_key, key_by, AreEnoughFor, shift_number, IsCandidate, AreNotBefore}
 use Rattle.affine_sets.proofs.Sums.{same_count}
@@ -92,6 +93,21 @@ same_moved s k l c some e =
     sym (moved_is s k (s.key.t +ᶜ times (pos UNIT) (s.key.m ·ᶜ k)) some refl)
     ∙ key_path _ _ refl (modulo_same (UNIT * s.over) (some_cell s.over some) _ _ c (ap (λ v. s.key.t +ᶜ times (pos UNIT) v) e ∙ cells_form s.key.t (s.key.m ·ᶜ l) c (pos UNIT) (pos s.over)))
     ∙ moved_is s l (s.key.t +ᶜ times (pos UNIT) (s.key.m ·ᶜ l)) some refl
+
+-- the first of the whole shifts moves nothing
+no_shift : (q : Sizes) → shift_number q 0 ≡ origin
+no_shift q = λ i. record { x = pos ((ap (λ v. v / q.y) (zero-div q.z) ∙ zero-div q.y) i); y = pos ((ap (λ v. v % q.y) (zero-div q.z) ∙ zero-mod q.y) i); z = pos (zero-mod q.z i) }
+
+unmoved_form : (m : Matrix) (t : Column) (u : ℤ) → t ≡ t +ᶜ times u (m ·ᶜ origin)
+unfolding ◌·ᶜ◌ ◌+ᶜ◌ times
+unmoved_form m t u = column_ring (u ∷ (entries m ++ coordinates t)) (column_at 10) (column_at 10 +ˢᶜ sym_times (var 0) (matrix_at 1 ·ˢᶜ sym_origin)) tt
+
+pub unmoved : (s : KeyOver) (q : Sizes) → IsKeyInCell s → s.key ≡ moved_key s (shift_number q 0)
+unfolding key_of
+unmoved s q h =
+    key_path _ _ refl (sym (modulo_part (UNIT * s.over) (some_cell s.over h.some) s.key.t h.in_cell))
+    ∙ moved_is s origin s.key.t h.some (unmoved_form s.key.m s.key.t (pos UNIT))
+    ∙ ap (moved_key s) (sym (no_shift q))
 
 -- ---- what is left of an average stands for it
 

@@ -9,6 +9,7 @@ ghost use Rattle.lattice_algebra.specs.Operator.{Operator, AreWithin, HasEntries
 ghost use Rattle.exact_ops.specs.Fields.{matrix_in, column_in};
 ghost use Rattle.space_groups.specs.Keys.{IsBelow, IsKey, ComesBefore, Key as AnyKey};
 ghost use Rattle.affine_sets.specs.Fields.{offset_in};
+ghost use Rattle.affine_sets.specs.Averages.{IsKeyInCell};
 ghost use Rattle.affine_sets.specs.Conditions.{IsAverage};
 ghost use Rattle.affine_sets.specs.Conjugates.{IsLeftOf, turned_matrix, carried_key, moved_key, IsGreatestBefore, AreListed, IsWithRun, AreSizes, AreWholeFor, AreEnoughFor, IsMultiple, shift_number, IsCandidate, IsNoLater, AreNotBefore};
 
@@ -155,14 +156,29 @@ fn first_of(base: &Key, sizes: &Sizes, best: &Key) -> Key
     ensures first { (i : ℕ) → i < sizes.now.x * sizes.now.y * sizes.now.z
         → ComesBefore (moved_key base.now (shift_number sizes.now i)) result.key → ⊥ }
 {
-    let mut first = *best;
-    for i in 0..sizes.x * sizes.y * sizes.z {
+    let mut first = earlier_of(base, best);
+    for i in 1..sizes.x * sizes.y * sizes.z {
         let next = moved(base, &nth_shift(sizes, i));
         if is_below(&next.t(), &first.t()) {
             first = next;
         }
     }
     first
+}
+
+/// The one of two keys with one matrix whose translation comes first; the other one where both are the same.
+fn earlier_of(one: &Key, other: &Key) -> Key
+    ensures value { ((result ≡ one.now)
+        × IsBelow (coordinates one.now.key.t) (coordinates other.now.key.t))
+        ⊎ ((result ≡ other.now)
+        × (IsBelow (coordinates one.now.key.t) (coordinates other.now.key.t) → ⊥)) }
+    // What is true of every key.
+    ensures in_cell { IsKeyInCell one.now }
+{
+    if is_below(&one.t(), &other.t()) {
+        return *one;
+    }
+    *other
 }
 
 /// The whole shift with this number.
@@ -295,7 +311,7 @@ fn is_whole(a: i32, over: u16) -> bool
     a.unsigned_abs() % u32::from(over) == 0
 }
 
-/// The least common denominator of each column of a matrix over `over`.
+/// A number for each column of a matrix over `over` that makes it whole: the least one, though no clause says so.
 pub fn column_sizes(m: &Rotation, over: u16) -> Sizes
     requires some { 0 < over }
     requires few { over ≤ MAX_OPERATORS }
@@ -310,7 +326,7 @@ pub fn column_sizes(m: &Rotation, over: u16) -> Sizes
     }
 }
 
-/// The least number of which a, b and c times it are multiples of `over`.
+/// A number of which a, b and c times it are multiples of `over`: the least one, though no clause says so.
 fn denominator(a: i32, b: i32, c: i32, over: u16) -> u32
     requires some { 0 < over }
     requires within { over ≤ MAX_OPERATORS }

@@ -5,9 +5,9 @@
 //! exactly the elements that fix each point of the image, and `holds` says exactly whether a point lies in it; `average_at` is
 //! the special-position operator of a point; `grow` gives exactly the group that a group and one more element generate, and none
 //! exactly where no rational point is fixed by all of them; `near` moves a group near the origin, and its whole shifts are then
-//! small; `key` is the first of all conjugates of an average, whole shifts of any size included, and says where an element
-//! carries one image onto another (`one_key_of_conjugate_images`). Every `Sub` is a finite group
-//! in the order of its operators, all of which fix a common rational point.
+//! small; `key` is the first of all conjugates of an average, whole shifts of any size included, and averages over full groups
+//! have one key exactly where an element carries one image onto the other (`one_key_of_conjugate_images`). Every `Sub` is a
+//! finite group in the order of its operators, all of which fix a common rational point.
 #![tactic(auto)]
 
 mod fixing;

@@ -9,3 +9,4 @@ pub mod Indices
 pub mod ChangedPoints
 pub mod Decided
 pub mod Existence
+mod Examples

@@ -4,7 +4,7 @@ ghost use Rattle.lattice_algebra.specs.Operator.{HasEntriesWithin};
 ghost use Rattle.exact_ops.specs.declared.TheConstants.{UNIT as PARTS};
 ghost use Rattle.group_closure.specs.declared.TheConstants.{MAX_OPERATORS};
 ghost use Rattle.group_closure.specs.GroupList.{IsGroup};
-ghost use Rattle.space_groups.specs.Bases.{IsInvertible, IsChange, IsCell, AreNarrow, IsMoreThan, IsChangedGroup};
+ghost use Rattle.space_groups.specs.Bases.{IsInvertible, IsChange, IsCell, AreNarrow, AreInParts, IsMoreThan, IsChangedGroup};
 ghost use Rattle.basis_change.specs.declared.TheConstants.{MAX_CELL};
 ghost use Rattle.basis_change.specs.Changes.{MayClose, IsRefusedAs, IsRecelled};
 ghost use Rattle.basis_change.specs.Frames.{IsFrame, change_in};
@@ -146,6 +146,7 @@ pub fn close_changed(alloc: Global, group: &Group, frame: &Frame) -> Result<Grou
     requires frame { IsFrame frame.now }
     requires cell { IsCell PARTS group.now (change_in frame.now) }
     requires narrow { AreNarrow PARTS group.now (change_in frame.now) }
+    requires parts { AreInParts PARTS group.now (change_in frame.now) }
     ensures group { IfOk result IsGroup }
     ensures changed { IfOk result (IsChangedGroup PARTS group.now (change_in frame.now)) }
     ensures few { OnOk result (¬ IsMoreThan MAX_OPERATORS PARTS group.now (change_in frame.now)) }

@@ -127,18 +127,17 @@ pub fn are_in_parts(group: &Group, frame: &Frame) -> bool
     true
 }
 
-/// The changed operators of the generators, where each has one.
+/// The changed operators of the generators.
 pub fn changed_list(alloc: Global, group: &Group, frame: &Frame) -> Result<OpList, NoMemory>
     requires frame { IsFrame frame.now }
     requires narrow { AreNarrow PARTS group.now (change_in frame.now) }
+    requires parts { AreInParts PARTS group.now (change_in frame.now) }
     ensures { IfOk result (AreChanged group.now (change_in frame.now) (generators group.now)) }
 {
     let mut list = OpList::new(alloc);
     for i in 0..group.len() + 3 {
         let g = generator_at(group, i);
-        let Some(raw) = frame.changed(&g) else {
-            return Err(NoMemory);
-        };
+        let raw = frame.changed(&g).unwrap();
         let Ok(()) = list.push(&raw) else {
             return Err(NoMemory);
         };

@@ -7,3 +7,4 @@ pub mod Tags
 pub mod Stored
 pub mod Whole
 pub mod KeptOrNot
+mod Examples

@@ -5,8 +5,8 @@ ghost use Rattle.phase_rules.specs.Halves.{AreBelow};
 
 use group_closure::Group;
 
-/// False where there is no member at i, or the members with the opposite matrix stand before it. Then all from there on are of
-/// the second half.
+/// True only where there is a member at i, and false only where all from there on are of the second half: there is none at i, or
+/// the members with the opposite matrix stand before it.
 pub fn stands_first(group: &Group, i: u8) -> bool
     ensures within { IsTrue result → i < length group.now }
     ensures behind { result ≡ false → AreBelow group.now i }

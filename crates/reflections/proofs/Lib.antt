@@ -3,3 +3,4 @@ pub mod ClassLists
 pub mod Walks
 pub mod Tags
 pub mod Whole
+mod Examples

@@ -108,6 +108,13 @@ coordinate g b c0 c1 c2 z0 z1 z2 s n hg e p0 p1 p2 =
       coordinate_above g o b (sum_above c0 c1 c2) c s hg ho e (subst (λ v. c ≤ℤ v) (sum_times _ _ _ o) (three_at_most _ _ _ _ _ _ (at_most c0 z0 p0) (at_most c1 z1 p1) (at_most c2 z2 p2))),
     )
 
+-- the whole shift s of an element that fixes a point of the first cell, where that is t + r z: u n o s = o (t - (W t + n v)) + u n (I - W) r z
+pub shift_equation : (unit : ℕ) (a : Block) (r : Matrix) (f : Operator) (s : Column) (y : ScaledPoint) (cell : IsInFirstCell unit a r y) → moved (shifted unit f s) y ≡ y
+    → times (pos unit *ℤ a.n *ℤ pos cell.over) s ≡ times (pos cell.over) (base_shift a f) +ᶜ times (pos unit *ℤ a.n) (differences f.w r ·ᶜ cell.at)
+unfolding moved base_shift
+shift_equation unit a r f s y cell fix =
+    cancel_column (pos y.d) _ _ (above y.d y.some) (fixed_form f.w r y.n a.t f.t s cell.at (pos unit) (pos y.d) a.n (pos cell.over) cell.equal (ap (λ (v : ScaledPoint). v.n) fix))
+
 -- the shift of an element that fixes a point of the first cell
 pub shift_is_between : (unit : ℕ) (a : Block) (r : Matrix) (f : Operator) (s : Column) (y : ScaledPoint) → 0 < unit → pos 0 <ℤ a.n → IsInFirstCell unit a r y → moved (shifted unit f s) y ≡ y
     → IsBetween (pos unit *ℤ a.n) (lowest unit a r f) (highest unit a r f) s
@@ -118,7 +125,7 @@ shift_is_between unit a r f s y hu hn cell fix =
     let m = differences f.w r in
     let z = cell.at in
     let b = base_shift a f in
-    let e : times (g *ℤ o) s ≡ times o b +ᶜ times g (m ·ᶜ z) = cancel_column (pos y.d) _ _ (above y.d y.some) (fixed_form f.w r y.n a.t f.t s z (pos unit) (pos y.d) a.n o cell.equal (ap (λ (v : ScaledPoint). v.n) fix)) in
+    let e : times (g *ℤ o) s ≡ times o b +ᶜ times g (m ·ᶜ z) = shift_equation unit a r f s y cell fix in
     let hg : pos 0 <ℤ g = positive_times unit a.n hu hn in
     let p = cell.parts in
     record {

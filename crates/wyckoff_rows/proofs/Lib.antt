@@ -19,3 +19,4 @@ mod RowOfPoint
 mod PlaceOfRow
 mod RangeEnds
 mod SpanningColumns
+mod Examples

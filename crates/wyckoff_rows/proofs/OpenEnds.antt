@@ -14,7 +14,7 @@ use Rattle.space_groups.specs.Space.{ScaledPoint, moved}
 use Rattle.space_groups.specs.Averages.{Block}
 use Rattle.space_groups.specs.Regions.{IsInFirstCell}
 use Rattle.space_groups.specs.Intervals.{differences, base_shift, sum_below, sum_above, sums_below, sums_above, lowest, highest, IsBetween}
-use Rattle.space_groups.proofs.Intervals.{shift_is_between}
+use Rattle.space_groups.proofs.Intervals.{shift_equation, shift_is_between}
 use Rattle.wyckoff_rows.specs.Steps.{IsBetweenEnds, AreBetweenEnds}
 
 -- ---- signs
@@ -131,30 +131,6 @@ coordinate_open g b c0 c1 c2 z0 z1 z2 s o some e p0 p1 p2 closed =
 
 -- ---- the shift of an element that fixes t + r z
 
--- d (u n o s) = d (o (t - (W t + n v)) + u n (I - W) r z), where n o y = d o t + u d n r z and W y + d (v + u s) = y
-fixed_form : (w r : Matrix) (y t v s z : Column) (u d n o : ℤ) → times (n *ℤ o) y ≡ times (d *ℤ o) t +ᶜ times (u *ℤ d *ℤ n) (r ·ᶜ z) → w ·ᶜ y +ᶜ times d (v +ᶜ times u s) ≡ y
-    → times d (times (u *ℤ n *ℤ o) s) ≡ times d (times o (t +ᶜ neg_column (w ·ᶜ t +ᶜ times n v)) +ᶜ times (u *ℤ n) (differences w r ·ᶜ z))
-unfolding ◌·◌ ◌·ᶜ◌ ◌+ᶜ◌ ◌+ᵐ◌ times neg_column scaled differences
-fixed_form w r y t v s z u d n o cell fix =
-    let U = var 0 in
-    let D = var 1 in
-    let N = var 2 in
-    let O = var 3 in
-    let W = matrix_at 4 in
-    let R = matrix_at 13 in
-    let Y = column_at 22 in
-    let T = column_at 25 in
-    let V = column_at 28 in
-    let S = column_at 31 in
-    let Z = column_at 34 in
-    let e = u ∷ d ∷ n ∷ o ∷ (entries w ++ (entries r ++ (coordinates y ++ (coordinates t ++ (coordinates v ++ (coordinates s ++ coordinates z)))))) in
-    let left = sym_neg (sym_times (D ⊗ N ⊗ O) V) in
-    let there = sym_times (D ⊗ O) T +ˢᶜ sym_times (U ⊗ D ⊗ N) (R ·ˢᶜ Z) in
-    column_ring e (sym_times D (sym_times (U ⊗ N ⊗ O) S)) (sym_times (N ⊗ O) (W ·ˢᶜ Y +ˢᶜ sym_times D (V +ˢᶜ sym_times U S)) +ˢᶜ (sym_neg (W ·ˢᶜ sym_times (N ⊗ O) Y) +ˢᶜ left)) tt
-    ∙ ap (λ c. times (n *ℤ o) c +ᶜ (neg_column (w ·ᶜ times (n *ℤ o) y) +ᶜ neg_column (times (d *ℤ n *ℤ o) v))) fix
-    ∙ ap (λ c. c +ᶜ (neg_column (w ·ᶜ c) +ᶜ neg_column (times (d *ℤ n *ℤ o) v))) cell
-    ∙ column_ring e (there +ˢᶜ (sym_neg (W ·ˢᶜ there) +ˢᶜ left)) (sym_times D (sym_times O (T +ˢᶜ sym_neg (W ·ˢᶜ T +ˢᶜ sym_times N V)) +ˢᶜ sym_times (U ⊗ N) ((R +ˢ sym_scaled (con (negsuc 0)) (W ·ˢ R)) ·ˢᶜ Z))) tt
-
 pub shift_between_ends : (unit : ℕ) (a : Block) (r : Matrix) (f : Operator) (s : Column) (y : ScaledPoint) → 0 < unit → pos 0 <ℤ a.n → IsInFirstCell unit a r y → moved (shifted unit f s) y ≡ y
     → AreBetweenEnds (pos unit *ℤ a.n) (base_shift a f) (differences f.w r) s
 unfolding moved base_shift sums_below sums_above lowest highest ◌·ᶜ◌ ◌+ᶜ◌ times
@@ -165,7 +141,7 @@ shift_between_ends unit a r f s y hu hn cell fix =
     let m = differences f.w r in
     let z = cell.at in
     let b = base_shift a f in
-    let e : times (g *ℤ o) s ≡ times o b +ᶜ times g (m ·ᶜ z) = cancel_column (pos y.d) _ _ (above y.d y.some) (fixed_form f.w r y.n a.t f.t s z (pos unit) (pos y.d) a.n o cell.equal (ap (λ (v : ScaledPoint). v.n) fix)) in
+    let e : times (g *ℤ o) s ≡ times o b +ᶜ times g (m ·ᶜ z) = shift_equation unit a r f s y cell fix in
     let some : pos 0 <ℤ g = positive_times unit a.n hu hn in
     let p = cell.parts in (
       coordinate_open g b.x m.xx m.xy m.xz z.x z.y z.z s.x cell.over some (ap (λ (c : Column). c.x) e) p.x p.y p.z closed.x,

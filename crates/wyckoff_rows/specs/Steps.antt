@@ -121,8 +121,8 @@ pub record IsPushed (P : Column → Type 0) (f : Operator) (old new : List Map) 
 abbrev pub open_end : ℤ → ℤ → ℤ → ℤ
 open_end g base s = base +ℤ g *ℤ s -ℤ int_signum s
 
--- g times k lies between the base and what lies g times the sum of those of the three numbers that are below 0, or above, from there: that is
--- left out where it is not the base
+-- g times k lies between two ends, which lie from the base by g times the sum of those of the three numbers that are below 0, and by that of
+-- those above: an end is left out where it is not the base
 abbrev pub IsBetweenEnds : ℤ → ℤ → ℤ → ℤ → ℤ → ℤ → Type 0
 IsBetweenEnds g base a b c k = (open_end g base (sum_below a b c) ≤ℤ (g *ℤ k)) × ((g *ℤ k) ≤ℤ open_end g base (sum_above a b c))
 

@@ -3,7 +3,8 @@
 //!
 //! Proved: `rows` is the table, for every group: every rational point fits exactly one row, every row fits some point, points
 //! of one row are conjugate and conversely, and a row's number of points is that of the orbit of each of its points in a cell;
-//! it is also the one row list, which the group determines. `fit` gives the place of the one row that a point fits.
+//! it is also the one row list, which the group determines (`some_row_list`, `one_row_list`, `row_list_is_a_table`). `fit` gives
+//! the place of the one row that a point fits.
 //!
 //! The rows are found by a search over finite groups of elements of the space group. Each group that is kept is grown by
 //! elements that fix some point of its fixed points; what it grows to is kept where its key is new.
@@ -13,12 +14,16 @@ mod candidates;
 mod entry;
 mod fitting;
 mod keeping;
-pub mod laws;
+mod laws;
 pub mod parts;
 mod ranges;
 mod spans;
 mod table;
 
 pub use fitting::fit;
+pub use laws::{
+    multiplicity_counts_the_orbit, one_row_list, one_row_of_conjugate_points,
+    one_row_of_each_point, row_list_is_a_table, some_row_list,
+};
 pub use parts::Row;
 pub use table::rows;

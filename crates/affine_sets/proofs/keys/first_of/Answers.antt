@@ -3,9 +3,12 @@ use Rattle.std.proofs.lemmas.Bool.{false≢true}
 use Rattle.lattice_algebra.specs.Matrix.{coordinates}
 use Rattle.space_groups.specs.Keys.{IsBelow}
 use Rattle.affine_sets.specs.Conjugates.{moved_key, shift_number}
-use Rattle.affine_sets.proofs.KeySteps.{IsFirstUpTo, first_replaced, first_kept}
+use Rattle.affine_sets.proofs.KeySteps.{IsFirstUpTo, one_of_two, first_replaced, first_kept}
 use Rattle.affine_sets.proofs.keys.first_of.Goals as goal
 use Rattle.affine_sets.proofs.keys.first_of.Goals.{then-is_below, else-is_below}
+
+pub loop-i-init : goal.loop-i-init
+loop-i-init c = one_of_two c.args.base.now c.args.best.now c.earlier_of-first.result c.args.sizes.now c.earlier_of-first.ensures.in_cell c.requires.over c.requires.matrix c.earlier_of-first.ensures.value
 
 pub loop-i-preserved : goal.loop-i-preserved
 loop-i-preserved c =

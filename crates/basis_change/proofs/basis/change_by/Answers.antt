@@ -2,7 +2,7 @@ use Rattle.std.proofs.Common.{rules, sym, ap, Err, ◌∙◌, refl}
 use Rattle.std.proofs.lemmas.Bool.{false≢true}
 use Rattle.group_closure.specs.declared.group.CloseFault.{CloseFault}
 use Rattle.basis_change.specs.Frames.{change_in}
-use Rattle.basis_change.proofs.ChangedGroup.{is_cell}
+use Rattle.basis_change.proofs.ChangedGroup.{is_cell, are_in_parts}
 use Rattle.basis_change.proofs.Existence.{not_many}
 use Rattle.basis_change.proofs.basis.change_by.Goals as goal
 
@@ -23,6 +23,9 @@ close_changed-requires-clause-cell c = is_cell c.args.group.now c.len-count.ensu
 
 pub close_changed-requires-clause-narrow : goal.close_changed-requires-clause-narrow
 close_changed-requires-clause-narrow c = (c.are_narrow.ensures.0 c.if-not-are_narrow.false)
+
+pub close_changed-requires-clause-parts : goal.close_changed-requires-clause-parts
+close_changed-requires-clause-parts c = are_in_parts c.args.group.now c.len-count.ensures.group (change_in c.args.frame.now) c.requires.change
 
 pub unreachable-requires : goal.unreachable-requires
 unreachable-requires c = not_many c.args.group.now c.len-count.ensures.group (change_in c.args.frame.now) c.requires.change (c.close_changed.ensures.many (c.in-Err-Unclosed.is ∙ ap (λ (e : CloseFault). Err e) c.in-Err-Unclosed.field-0-is))

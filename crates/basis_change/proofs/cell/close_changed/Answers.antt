@@ -15,6 +15,9 @@ changed_list-requires-clause-frame c = c.requires.frame
 pub changed_list-requires-clause-narrow : goal.changed_list-requires-clause-narrow
 changed_list-requires-clause-narrow c = c.requires.narrow
 
+pub changed_list-requires-clause-parts : goal.changed_list-requires-clause-parts
+changed_list-requires-clause-parts c = c.requires.parts
+
 pub returns-in_default-clause-many : goal.returns-in_default-clause-many
 returns-in_default-clause-many c = λ e. search rules
 

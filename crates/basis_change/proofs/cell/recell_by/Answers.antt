@@ -27,6 +27,9 @@ close_changed-requires-clause-cell c = (c.is_cell.ensures.0 c.if-not-is_cell.fal
 pub close_changed-requires-clause-narrow : goal.close_changed-requires-clause-narrow
 close_changed-requires-clause-narrow c = (c.are_narrow.ensures.0 c.if-not-are_narrow.false)
 
+pub close_changed-requires-clause-parts : goal.close_changed-requires-clause-parts
+close_changed-requires-clause-parts c = (c.are_in_parts.ensures.0 c.if-not-are_in_parts.false)
+
 pub returns-then-not-is_cell-clause-refused : goal.returns-then-not-is_cell-clause-refused
 returns-then-not-is_cell-clause-refused c = (λ k. false≢true (sym c.if-not-is_cell.true ∙ c.is_cell.ensures.1 k))
 
