@@ -34,7 +34,7 @@ pub record MayClose (members : List Operator) (c : CoordinateChange) : Type 0 wh
   pub narrow : AreNarrow UNIT members c
   pub parts : AreInParts UNIT members c
 
--- the first line that refuses the change
+-- why the change is refused: of the first five faults the first that holds; for want of memory where none of the first four does
 abbrev pub IsRefusedAs : List Operator → CoordinateChange → RecellFault → Type 0
 IsRefusedAs members c NotCell = ¬ IsCell UNIT members c
 IsRefusedAs members c NotWhole = IsCell UNIT members c × (¬ AreWhole UNIT members c)

@@ -44,7 +44,7 @@ impl Model for CellChange {
         record { w = stored_matrix c.w; origin = stored_column c.t; d = unsigned_abs c.d } };
 }
 
-/// Why a group has none in the other cell. A line holds only where no earlier one does.
+/// Why a group has none in the other cell: of the first five the first that holds.
 #[derive(Clone, Copy, PartialEq, Eq, Debug, Drop)]
 pub enum RecellFault {
     /// The translation by one cell along some axis is no changed element.
@@ -57,7 +57,7 @@ pub enum RecellFault {
     Fine,
     /// The changed group has more than `MAX_OPERATORS` members modulo the cell.
     Many,
-    /// Want of memory, which may come where none of the first four does.
+    /// Want of memory, which may come where none of the first four holds.
     NoMemory,
 }
 

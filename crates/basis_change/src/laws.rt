@@ -20,7 +20,7 @@ pub fn some_changed_group()
         → (changed : List Operator) × IsGroup changed × IsChangedGroup UNIT members c changed }
 {}
 
-/// A group has one in another cell, or some line refuses it.
+/// A group has one in another cell, or a refusal other than want of memory.
 pub fn some_recelled_group()
     ensures { (members : List Operator) (c : CoordinateChange) → IsChange c → IsGroup members
         → ((changed : List Operator) × IsRecelled members c changed)

@@ -3,8 +3,8 @@
 //! divided in the definition: h is the changed map of g where h after c is c after g.
 //!
 //! Proved: the space group of the new list is the set of all c g c^-1, each g having its own in it (`change`, `recell`), and
-//! there is one such group (`one_changed_group`, `some_changed_group`, `some_recelled_group`). Each refusal comes where its
-//! line is the first that holds, and all but the count of the operators is tested before memory is taken. Site-symmetry
+//! there is one such group (`one_changed_group`, `some_changed_group`, `some_recelled_group`). Each refusal comes where it
+//! is the first that holds, and all but the count of the operators is tested before memory is taken. Site-symmetry
 //! groups and conjugate points are carried over; for a change of basis moreover orbits have as many points in a cell, h P is
 //! absent exactly where h is, and its class has as many rows, with Friedel's law and without it. `Change::index` is h P, and
 //! `Change::point` is c x.

@@ -51,7 +51,7 @@ impl GridSize {
         usize::from(self.a) * usize::from(self.b) * usize::from(self.c)
     }
 
-    /// The place of a point of the cell.
+    /// The place of a point of the cell among all of them, ascending, counted from 0.
     pub fn place(&self, at: &[u16; 3]) -> usize
         requires { IsInGrid self.now (triple_of at.now) }
         ensures value { result ≡ place_of self.now (triple_of at.now) }

@@ -1,6 +1,6 @@
-//! Lines, gathered on a page that is handed to a sink where the next one may not fit: `put_lines`, the one loop that prints,
-//! and `print_lines`, which does it with a page of its own; for elements that are asked by their places `put_listed` and
-//! `print_listed`. The texts of the lines are those of the printers that stand on this crate. This project's own.
+//! Lines, gathered on a page that is handed to a sink where the next one may not fit (`make_room`). `put_lines` does it for all
+//! that give one after the other, `print_lines` with a page of its own; for elements that are asked by their places `put_listed`
+//! and `print_listed`. The texts of the lines are those of the printers that stand on this crate. This project's own.
 //!
 //! Proved: after Ok the sink took all lines, in their order, or the last of them stand on the page that was given; after an Err
 //! it took a prefix of them. The count of what stopped the call rose, and no other did (`Prints`, `GathersText`).

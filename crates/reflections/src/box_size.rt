@@ -57,7 +57,7 @@ impl BoxSize {
         is_within(self.h, row[0]) && is_within(self.k, row[1]) && is_within(self.l, row[2])
     }
 
-    /// The place of a row of the box.
+    /// The place of a row of the box among all of them, descending, counted from 0.
     pub fn place(&self, row: &[i32; 3]) -> usize
         requires { IsInBox self.now (row_of row.now) }
         ensures value { result ≡ place_of self.now (row_of row.now) }

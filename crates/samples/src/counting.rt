@@ -14,7 +14,7 @@ use wyckoff_rows::parts::Rows;
 /// How many points are made from a seed.
 pub const POINTS: u32 = 1000;
 
-/// How many of the points that are made from a seed fit each row of the table of a group.
+/// How many of the points that are made from a seed fit each row of the table of a group, in the order of the rows.
 pub fn count_points(
     alloc: Global,
     group: &Group,

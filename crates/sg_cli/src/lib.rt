@@ -2,6 +2,7 @@
 //! Words, statuses and texts are this project's own.
 //!
 //! Proved of `run`, clause by clause: status, output and fault text are those of the answer that the words and the bytes have.
+//! Of bytes that a stream does not tell, as those of the process do not, nothing is said.
 //! There is an answer to all words and bytes (`some_answer`), and one only (`answer_is_unique`). A refusal comes exactly where
 //! it is the first that applies; 3 and 4 come exactly where a read or a write failed in this call. Where nothing fails, the
 //! text is printed whole, or memory is wanted, which is status 9. The rows that are printed are a Wyckoff table of the group
