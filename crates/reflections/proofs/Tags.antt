@@ -4,17 +4,15 @@ use Rattle.std.proofs.lemmas.Bool.{cases_lt}
 use Rattle.std.proofs.lemmas.List.{length-set, take_all, get_or-take}
 use Rattle.std.proofs.lemmas.Option.{slice_get-get_or}
 use Rattle.finite_groups.proofs.Members as lists
-use Rattle.lattice_algebra.specs.Matrix.{entries, matrix_of, identity, scaled}
+use Rattle.lattice_algebra.specs.Matrix.{Matrix, identity, scaled}
 use Rattle.lattice_algebra.specs.Operator.{Operator, product}
 use Rattle.exact_ops.specs.declared.TheConstants.{UNIT}
 use Rattle.group_closure.specs.GroupList.{IsGroup}
 use Rattle.group_closure.proofs.Places.{contains_at}
 use Rattle.phase_rules.specs.declared.pairs.Pairs.{Pairs}
 use Rattle.phase_rules.specs.declared.pairs.Pairs.TheVariants.{Friedel, Apart}
-use Rattle.phase_rules.specs.declared.tallies.Turn.{Turn}
 use Rattle.phase_rules.specs.Rows.{Row, ◌·ʳ◌, neg_row}
 use Rattle.phase_rules.specs.Equivalent.{IsSameReflection, AreEquivalent}
-use Rattle.phase_rules.specs.Tallies.{IsTurn}
 use Rattle.phase_rules.specs.Halves.{HaveOpposites}
 use Rattle.phase_rules.proofs.Rows.{neg_row-neg_row}
 use Rattle.group_closure.proofs.Places.{EndsRun, same_matrix}
@@ -58,11 +56,8 @@ pub record AreReached (pairs : Pairs) (members : List Operator) (box : Box) (old
   pub reached : (g : Row) → IsInBox box g → AreEquivalent pairs (take i members) h g → IsTagged box new g
 
 -- what tagging with one matrix gives
-abbrev pub AreTagged : Pairs → Box → List Bool → List Bool → Row → List ℤ → Type 0
-AreTagged pairs box old new h w = (g : Row) → IsInBox box g → IsTagged box new g ↔ (IsTagged box old g ⊎ IsSameReflection pairs (h ·ʳ matrix_of w) g)
-
-by_member : (pairs : Pairs) (members : List Operator) (h g : Row) (f : Operator) (w : List ℤ) → Contains members f → w ≡ entries f.w → IsSameReflection pairs (h ·ʳ matrix_of w) g → AreEquivalent pairs members h g
-by_member pairs members h g f w m e s = record { by = f; member = m; same = subst (λ v. IsSameReflection pairs (h ·ʳ matrix_of v) g) e s }
+abbrev pub AreTagged : Pairs → Box → List Bool → List Bool → Row → Matrix → Type 0
+AreTagged pairs box old new h w = (g : Row) → IsInBox box g → IsTagged box new g ↔ (IsTagged box old g ⊎ IsSameReflection pairs (h ·ʳ w) g)
 
 -- one of the first members is one of the first i, or stands from i on
 earlier_or_later : (members : List Operator) (i end : ℕ) (f : Operator) → Contains (take end members) f → Contains (take i members) f ⊎ ((k : ℕ) × (i ≤ k) × (k < end) × (slice_get members k ≡ Some f))
@@ -84,15 +79,15 @@ module _ (pairs : Pairs) (members : List Operator) (box : Box) (old : List Bool)
     reached = λ g j a. lists.not_in_nil a.by a.member;
   }
 
-  pub reached_more : (tags new : List Bool) (i end : ℕ) (f : Operator) (w : List ℤ) → slice_get members i ≡ Some f → w ≡ entries f.w → EndsRun members i end → AreReached pairs members box old tags h i → AreTagged pairs box tags new h w → AreReached pairs members box old new h end
-  reached_more tags new i end f w e q ends r t = record {
-    sound = λ g j s. ⊎_elim (λ a. r.sound g j a) (λ a. inr (by_member pairs members h g f w (contains_at members f i e) q a)) ((t g j).0 s);
+  pub reached_more : (tags new : List Bool) (i end : ℕ) (f : Operator) → slice_get members i ≡ Some f → EndsRun members i end → AreReached pairs members box old tags h i → AreTagged pairs box tags new h f.w → AreReached pairs members box old new h end
+  reached_more tags new i end f e ends r t = record {
+    sound = λ g j s. ⊎_elim (λ a. r.sound g j a) (λ a. inr (record { by = f; member = contains_at members f i e; same = a })) ((t g j).0 s);
     kept = λ g j s. (t g j).1 (inl (r.kept g j s));
     reached = λ g j a.
         ⊎_elim
         (λ b. (t g j).1 (inl (r.reached g j (record { by = a.by; member = b; same = a.same }))))
         (λ b.
-        let same : a.by.w ≡ matrix_of w = same_matrix members i end b.0 f a.by ends e b.3 b.1 b.2 ∙ sym (ap matrix_of q) in
+        let same : a.by.w ≡ f.w = same_matrix members i end b.0 f a.by ends e b.3 b.1 b.2 in
         (t g j).1 (inr (subst (λ m. IsSameReflection pairs (h ·ʳ m) g) same a.same)))
         (earlier_or_later members i end a.by a.member);
   }
@@ -144,6 +139,3 @@ module _ (members : List Operator) (box : Box) (old : List Bool) (h : Row) (grou
         (front_or_behind members i a.by a.member))
         s),
   )
-
-pub asked_part : (h : Row) (f : Operator) (w : List ℤ) (found : Turn) → w ≡ entries f.w → IsTurn h (h ·ʳ matrix_of w) found → IsTurn h (h ·ʳ f.w) found
-asked_part h f w found e t = subst (λ v. IsTurn h (h ·ʳ matrix_of v) found) e t

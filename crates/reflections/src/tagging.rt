@@ -1,6 +1,5 @@
 ghost use Rattle.std.specs.Prelude.{◌≡◌, ◌↔◌, ◌⊎◌, length, negsuc};
-ghost use Rattle.lattice_algebra.specs.Matrix.{matrix_of, identity, scaled};
-ghost use Rattle.lattice_algebra.specs.Operator.{HasEntriesWithin};
+ghost use Rattle.lattice_algebra.specs.Matrix.{identity, scaled};
 ghost use Rattle.group_closure.specs.GroupList.{IsGroup};
 ghost use Rattle.group_closure.specs.Runs.{IsFirstWith};
 ghost use Rattle.phase_rules.specs.declared.pairs.Pairs.{Pairs};
@@ -11,6 +10,7 @@ ghost use Rattle.reflections.specs.Boxes.{IsInBox, places};
 ghost use Rattle.reflections.specs.Walks.{IsTagged};
 
 use crate::box_size::BoxSize;
+use exact_ops::Op;
 use group_closure::Group;
 use phase_rules::halves::stands_first;
 use phase_rules::tallies::{Tally, Turn};
@@ -54,7 +54,7 @@ fn tag_by_runs(
     let mut tally = Tally::none();
     let mut i = 0;
     while i < order {
-        let turn = tag_images(tags, size, index, &group.op(i).w(), pairs);
+        let turn = tag_images(tags, size, index, &group.op(i), pairs);
         let end = group.run_end(i);
         // Most runs do neither, and cost no call.
         if turn.fixes || turn.reverses {
@@ -84,7 +84,7 @@ fn tag_with_opposites(
     let mut tally = Tally::none();
     let mut i = 0;
     'runs: while stands_first(group, i) {
-        let turn = tag_images(tags, size, index, &group.op(i).w(), Pairs::Friedel);
+        let turn = tag_images(tags, size, index, &group.op(i), Pairs::Friedel);
         let end = group.run_end(i);
         // Most runs do neither, and cost no call.
         if turn.fixes || turn.reverses {
@@ -95,16 +95,14 @@ fn tag_with_opposites(
     tally.with_opposites(group, index, inversion)
 }
 
-/// Tags the rows of the box that this rotation part makes of the index, and says what it does to it.
-fn tag_images(tags: &mut [bool], size: &BoxSize, index: &Index, w: &[i32; 9], pairs: Pairs) -> Turn
-    requires len { length tags.old ≡ places size.now }
-    requires narrow { HasEntriesWithin 2 (matrix_of w.now) }
-    ensures turn { IsTurn index.now (index.now ·ʳ matrix_of w.now) result }
+/// Tags the rows of the box that the rotation part of an operator makes of the index, and says what it does to it.
+fn tag_images(tags: &mut [bool], size: &BoxSize, index: &Index, op: &Op, pairs: Pairs) -> Turn
+    requires { length tags.old ≡ places size.now }
+    ensures turn { IsTurn index.now (index.now ·ʳ op.now.w) result }
     ensures tags { (h : Row) → IsInBox size.now h → (IsTagged size.now tags.new h
-        ↔ (IsTagged size.now tags.old h
-        ⊎ IsSameReflection pairs (index.now ·ʳ matrix_of w.now) h)) }
+        ↔ (IsTagged size.now tags.old h ⊎ IsSameReflection pairs (index.now ·ʳ op.now.w) h)) }
 {
-    let image = index.times(w);
+    let image = index.times(&op.w());
     if size.holds(&image) {
         tag(tags, size, &image, pairs);
     }

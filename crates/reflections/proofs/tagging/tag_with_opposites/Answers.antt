@@ -3,7 +3,7 @@ use Rattle.group_closure.proofs.Places.{contains_at, some_at}
 use Rattle.phase_rules.specs.declared.pairs.Pairs.TheVariants.{Friedel}
 use Rattle.phase_rules.proofs.Opposites.{have_opposites}
 use Rattle.phase_rules.proofs.Runs.{passed, turned}
-use Rattle.reflections.proofs.Tags.{asked_part, reached_none, reached_more, reached_by_half}
+use Rattle.reflections.proofs.Tags.{reached_none, reached_more, reached_by_half}
 use Rattle.reflections.proofs.tagging.tag_with_opposites.Goals as goal
 
 pub runs-init : goal.runs-init
@@ -15,24 +15,22 @@ runs-init c = record {
 
 pub add_run-requires-clause-turn : goal.add_run-requires-clause-turn
 add_run-requires-clause-turn c =
-    turned c.args.group.now c.args.index.now c.runs.i c.run_end-end.result c.op.result c.tag_images-turn.result (record { first = c.run_end-end.ensures.first; run = c.run_end-end.ensures.run }) c.op.ensures.value
-    (asked_part c.args.index.now c.op.result c.w.result c.tag_images-turn.result c.w.ensures.value c.tag_images-turn.ensures.turn)
+    turned c.args.group.now c.args.index.now c.runs.i c.run_end-end.result c.op.result c.tag_images-turn.result (record { first = c.run_end-end.ensures.first; run = c.run_end-end.ensures.run }) c.op.ensures.value c.tag_images-turn.ensures.turn
 
 pub runs-preserved-then-turn : goal.runs-preserved-then-turn
 runs-preserved-then-turn c = record {
   within = c.run_end-end.ensures.within;
   tally = c.add_run.ensures;
-  reached = reached_more Friedel c.args.group.now c.args.size.now c.args.tags.now c.args.index.now c.runs.tags c.tag_images-turn.new.tags c.runs.i c.run_end-end.result c.op.result c.w.result c.op.ensures.value c.w.ensures.value (record { first = c.run_end-end.ensures.first; run = c.run_end-end.ensures.run }) c.runs.invariant.reached c.tag_images-turn.ensures.tags;
+  reached = reached_more Friedel c.args.group.now c.args.size.now c.args.tags.now c.args.index.now c.runs.tags c.tag_images-turn.new.tags c.runs.i c.run_end-end.result c.op.result c.op.ensures.value (record { first = c.run_end-end.ensures.first; run = c.run_end-end.ensures.run }) c.runs.invariant.reached c.tag_images-turn.ensures.tags;
 }
 
 pub runs-preserved : goal.runs-preserved
 runs-preserved c =
-    let turns = turned c.args.group.now c.args.index.now c.runs.i c.run_end-end.result c.op.result c.tag_images-turn.result (record { first = c.run_end-end.ensures.first; run = c.run_end-end.ensures.run }) c.op.ensures.value
-    (asked_part c.args.index.now c.op.result c.w.result c.tag_images-turn.result c.w.ensures.value c.tag_images-turn.ensures.turn) in
+    let turns = turned c.args.group.now c.args.index.now c.runs.i c.run_end-end.result c.op.result c.tag_images-turn.result (record { first = c.run_end-end.ensures.first; run = c.run_end-end.ensures.run }) c.op.ensures.value c.tag_images-turn.ensures.turn in
     record {
       within = c.run_end-end.ensures.within;
       tally = passed c.args.group.now c.args.index.now c.runs.i c.run_end-end.result c.tag_images-turn.result c.runs.tally (omega (arith, c.run_end-end.ensures.beyond)) c.run_end-end.ensures.within turns c.if-turn.false c.if-turn-2.false c.runs.invariant.tally;
-      reached = reached_more Friedel c.args.group.now c.args.size.now c.args.tags.now c.args.index.now c.runs.tags c.tag_images-turn.new.tags c.runs.i c.run_end-end.result c.op.result c.w.result c.op.ensures.value c.w.ensures.value (record { first = c.run_end-end.ensures.first; run = c.run_end-end.ensures.run }) c.runs.invariant.reached c.tag_images-turn.ensures.tags;
+      reached = reached_more Friedel c.args.group.now c.args.size.now c.args.tags.now c.args.index.now c.runs.tags c.tag_images-turn.new.tags c.runs.i c.run_end-end.result c.op.result c.op.ensures.value (record { first = c.run_end-end.ensures.first; run = c.run_end-end.ensures.run }) c.runs.invariant.reached c.tag_images-turn.ensures.tags;
     }
 
 pub with_opposites-requires-clause-first : goal.with_opposites-requires-clause-first
