@@ -36,6 +36,12 @@ three = two ⊕ var 2 ⊗ var 6
 abbrev four : Expr
 four = three ⊕ var 3 ⊗ var 7
 
+pub overflow_mul-result : goal.overflow_mul-result
+overflow_mul-result c = fits w128 bounds (numbers c) (var 0 ⊗ var 4) (within c) tt
+
+pub overflow_mul-result-2 : goal.overflow_mul-result-2
+overflow_mul-result-2 c = fits w128 bounds (numbers c) (var 1 ⊗ var 5) (within c) tt
+
 pub overflow_add-result : goal.overflow_add-result
 overflow_add-result c = fits w128 bounds (numbers c) two (within c) tt
 

@@ -36,6 +36,12 @@ row_within c =
     let s = c.requires.shift in
     subst (IsWithin row_bounds) (sym (same_row c)) (r.first, (r.second, (r.third, (s.first, (s.second, (s.third, tt))))))
 
+pub overflow_mul-result : goal.overflow_mul-result
+overflow_mul-result c = fits w64 row_bounds (row_numbers c) (var 0 ⊗ var 3) (row_within c) tt
+
+pub overflow_mul-result-2 : goal.overflow_mul-result-2
+overflow_mul-result-2 c = fits w64 row_bounds (row_numbers c) (var 1 ⊗ var 4) (row_within c) tt
+
 pub overflow_add-result : goal.overflow_add-result
 overflow_add-result c = fits w64 row_bounds (row_numbers c) two (row_within c) tt
 

@@ -1,7 +1,7 @@
 use Rattle.std.proofs.Common.{◌≡◌, ap, sym, subst, ◌∙◌, List, ℕ, ℤ, [], ◌∷◌, w64}
 use mir.Syntax.{w128}
 use Rattle.lattice_algebra.proofs.Ring.{Expr, var, ◌⊕◌, ◌⊗◌, value}
-use Rattle.lattice_algebra.proofs.Machine.{IsWithin, computed, computed-size, kept}
+use Rattle.lattice_algebra.proofs.Machine.{IsWithin, computed, computed-size, fits, kept}
 use Rattle.exact_ops.specs.declared.TheConstants.{MAX_SHIFT}
 use Rattle.exact_ops.proofs.Bounds.{denominator_bound, image_bound}
 use Rattle.exact_ops.proofs.moves.shifted.Goals as goal
@@ -23,6 +23,12 @@ within c = subst (IsWithin bounds) (sym (same_numbers c)) (c.requires.numerator,
 
 abbrev sum : Expr
 sum = var 0 ⊕ var 1 ⊗ var 2
+
+pub overflow_mul-result : goal.overflow_mul-result
+overflow_mul-result c = fits w128 bounds (numbers c) (var 1 ⊗ var 2) (within c) tt
+
+pub overflow_add-result : goal.overflow_add-result
+overflow_add-result c = fits w128 bounds (numbers c) sum (within c) tt
 
 pub returns-clause-value : goal.returns-clause-value
 returns-clause-value c = computed w128 bounds (numbers c) sum (within c) tt ∙ ap (λ r. value r sum) (same_numbers c)
