@@ -12,6 +12,7 @@ pub mod Generic
 pub mod Keys
 pub mod FirstCell
 pub mod Intervals
+pub mod OpenEnds
 pub mod KeyCandidates
 -- site-symmetry groups and orbits
 pub mod Sites
@@ -35,7 +36,7 @@ pub mod ChangedGroups
 pub mod ChangedLists
 pub mod ChangedCells
 pub mod CellTests
-mod OneOperator
+pub mod OneOperator
 -- which elements a search has to try
 pub mod NearOrigin
 pub mod ShiftSizes

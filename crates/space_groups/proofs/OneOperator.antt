@@ -1,4 +1,4 @@
--- The smallest space group, of whole shifts alone: what the theorem asks of a search can be met.
+-- An example: the smallest space group, of whole shifts alone. What the theorem asks of a search can be met; other examples cite this.
 use Rattle.std.proofs.Common.{◌≡◌, ◌∷◌, [], ℕ, zero, suc, ◌*◌, ◌<◌, ◌≤◌, List, length, ℤ, pos, All, Contains, ap, ap₂, sym, ◌∙◌, refl, subst, arith, ⊎_elim, unsigned_abs, slice_index_or}
 use Rattle.std.proofs.lemmas.List.Elements.{Contains-get_or}
 use Rattle.std.proofs.lemmas.Map.Keys.{IsDistinct-from_apart}
@@ -24,26 +24,26 @@ use Rattle.space_groups.proofs.Ordered.{not_before_itself}
 use Rattle.space_groups.proofs.Means as means
 use Rattle.space_groups.proofs.Theorem.{table_of_search}
 
-abbrev only : List Operator
+abbrev pub only : List Operator
 only = identity_operator ∷ []
 
 only_one : (f : Operator) → Contains only f → identity_operator ≡ f
 only_one f c = ⊎_elim (λ e. e) (λ d. lists.not_in_nil f d) (lists.Contains-cases f identity_operator [] c)
 
-abbrev alone : List Map
+abbrev pub alone : List Map
 alone = identity_map ∷ []
 
-in_alone : (f : Map) → Contains alone f → identity_map ≡ f
+pub in_alone : (f : Map) → Contains alone f → identity_map ≡ f
 in_alone f c = ⊎_elim (λ e. e) (λ d. lists.not_in_nil f d) (lists.Contains-cases f identity_map [] c)
 
-abbrev whole_space : Block
+abbrev pub whole_space : Block
 whole_space = record { m = identity; t = origin; n = pos 1 }
 
 is_block : block_of identity_map ≡ whole_space
 unfolding block_of
 is_block = refl
 
-alone_mean : IsMean 1 alone whole_space
+pub alone_mean : IsMean 1 alone whole_space
 unfolding block_scaled block_plus block_of scaled times ◌+ᵐ◌ ◌+ᶜ◌
 alone_mean = refl
 
@@ -82,7 +82,7 @@ module _ (unit : ℕ) (some : 0 < unit) where
   same_matrix e p = ap (λ (v : Operator). v.w) p
 
   -- an element that fixes a point is the identity
-  is_identity : (e : Map) (y : ScaledPoint) → IsElement unit only e → moved e y ≡ y → identity_map ≡ e
+  pub is_identity : (e : Map) (y : ScaledPoint) → IsElement unit only e → moved e y ≡ y → identity_map ≡ e
   is_identity e y m f = one_rotation identity_map e y (moved-identity y) f (same_matrix e (only_one (operator_of unit e) m))
 
   alone_closed : IsClosedList (space shifts) alone
@@ -93,14 +93,14 @@ module _ (unit : ℕ) (some : 0 < unit) where
     closed = λ a b p q. subst (Contains alone) (sym (ap₂ (λ x y. x ∘ y) (sym (in_alone a p)) (sym (in_alone b q)) ∙ identity-∘ identity_map)) (lists.Contains-here identity_map []);
   }
 
-  abbrev the_key : Key
+  abbrev pub the_key : Key
   the_key = key_of unit 1 whole_space
 
   stays_whole : (g : Map) → IsElement unit only g → carried g whole_space ≡ whole_space
   unfolding carried
   stays_whole g m = ap (λ b. block_times (block_times (block_of g) b) (block_of (undo g))) (sym is_block) ∙ ap (λ b. block_times b (block_of (undo g))) (times_identity (block_of g)) ∙ sym (block_of-∘ g (undo g)) ∙ ap block_of ((space shifts).inv_right g m) ∙ is_block
 
-  alone_key : IsKey unit only 1 whole_space the_key
+  pub alone_key : IsKey unit only 1 whole_space the_key
   alone_key = record {
     by = identity_map;
     element = (space shifts).one_in;
@@ -117,24 +117,33 @@ module _ (unit : ℕ) (some : 0 < unit) where
     narrow = λ f c. subst (λ v. HasEntriesWithin 2 v.w) (only_one f c) narrow_identity;
   }
 
-  alone_sub : IsSub unit only alone
+  pub alone_sub : IsSub unit only alone
   alone_sub = record { elements = alone_closed.valid; once = λ i j d l m. absurd (omega arith); identity = alone_closed.has_one; products = alone_closed.closed }
 
-  in_whole : (y : ScaledPoint) → IsInImage whole_space y
+  pub in_whole : (y : ScaledPoint) → IsInImage whole_space y
   in_whole y = means.fixed_image {L = shifts} (record { some = omega arith; list = alone; closed = alone_closed; average = whole_space; is_mean = alone_mean }) y (λ e c. subst (λ v. moved v y ≡ y) (in_alone e c) (moved-identity y))
 
   -- the elements that fix all points are the identity alone
-  full_length : (list : List Map) → IsFull unit only whole_space list → length list * 1 ≡ 1
+  pub full_length : (list : List Map) → IsFull unit only whole_space list → length list * 1 ≡ 1
   full_length list f =
       let le : length list ≤ length alone = lists.pigeonhole map_eq map_eq-is list alone (IsDistinct-from_AllPairs map_eq-is list f.once) (λ e c.
       let r = (f.exactly e).0 c in subst (Contains alone) (is_identity e some_point r.0 (r.1 some_point (in_whole some_point))) (lists.Contains-here identity_map [])) in
       let has_one : 0 < length list = omega (arith, ((f.exactly identity_map).1 ((space shifts).one_in, λ y _. moved-identity y)).1) in
       omega (arith, le, has_one)
 
-  abbrev the_set : Kept
+  pub alone_full : IsFull unit only whole_space alone
+  alone_full = record {
+    exactly = λ e. (
+      (λ c. (subst (IsElement unit only) (in_alone e c) (space shifts).one_in, λ y i. subst (λ v. moved v y ≡ y) (in_alone e c) (moved-identity y))),
+      (λ r. subst (Contains alone) (is_identity e some_point r.0 (r.1 some_point (in_whole some_point))) (lists.Contains-here identity_map [])),
+    );
+    once = λ i j d l m. absurd (omega arith);
+  }
+
+  abbrev pub the_set : Kept
   the_set = record { set = alone; average = whole_space; key = the_key; mult = 1 }
 
-  set_kept : IsKept unit only the_set
+  pub set_kept : IsKept unit only the_set
   set_kept = record {
     sub = alone_sub;
     mean = alone_mean;
@@ -171,5 +180,5 @@ module _ (unit : ℕ) (some : 0 < unit) where
   }
 
   -- the table of the smallest space group has one row
-  table_of_shifts : IsTable unit only (row_of the_set ∷ [])
+  pub table_of_shifts : IsTable unit only (row_of the_set ∷ [])
   table_of_shifts = table_of_search unit some only only_members (the_set ∷ []) (row_of the_set ∷ []) the_search

@@ -1,7 +1,7 @@
 -- Which whole shifts an element of an operator can have that fixes a point of the first cell of an image: an interval for each coordinate.
 -- This project's own.
-use Rattle.std.specs.Prelude.{ℕ, ℤ, pos, negsuc, ◌+ℤ◌, ◌*ℤ◌, ◌≤ℤ◌}
-use Rattle.std.specs.Int.{int_min, int_max}
+use Rattle.std.specs.Prelude.{ℕ, ℤ, pos, negsuc, ◌+ℤ◌, ◌-ℤ◌, ◌*ℤ◌, ◌≤ℤ◌}
+use Rattle.std.specs.Int.{int_min, int_max, int_signum}
 use Rattle.lattice_algebra.specs.Matrix.{Matrix, Column, ◌·◌, ◌·ᶜ◌, ◌+ᶜ◌, ◌+ᵐ◌, neg_column, times, scaled}
 use Rattle.lattice_algebra.specs.Operator.{Operator}
 use Rattle.space_groups.specs.Averages.{Block}
@@ -40,3 +40,18 @@ pub record IsBetween (u : ℤ) (low high s : Column) : Type 0 where
   pub x : (low.x ≤ℤ (u *ℤ s.x)) × ((u *ℤ s.x) ≤ℤ high.x)
   pub y : (low.y ≤ℤ (u *ℤ s.y)) × ((u *ℤ s.y) ≤ℤ high.y)
   pub z : (low.z ≤ℤ (u *ℤ s.z)) × ((u *ℤ s.z) ≤ℤ high.z)
+
+-- ---- intervals that the equation of such an element leaves open
+
+-- the last whole number before base + g s on the way there from base, which is base itself where s is 0
+abbrev pub open_end : ℤ → ℤ → ℤ → ℤ
+open_end g base s = base +ℤ g *ℤ s -ℤ int_signum s
+
+-- g times k lies between two ends, which lie from the base by g times the sum of those of the three numbers that are below 0, and by that of
+-- those above: an end is left out where it is not the base
+abbrev pub IsBetweenEnds : ℤ → ℤ → ℤ → ℤ → ℤ → ℤ → Type 0
+IsBetweenEnds g base a b c k = (open_end g base (sum_below a b c) ≤ℤ (g *ℤ k)) × ((g *ℤ k) ≤ℤ open_end g base (sum_above a b c))
+
+-- and so for each coordinate, with the three numbers of its row
+abbrev pub AreBetweenEnds : ℤ → Column → Matrix → Column → Type 0
+AreBetweenEnds g base m k = IsBetweenEnds g base.x m.xx m.xy m.xz k.x × IsBetweenEnds g base.y m.yx m.yy m.yz k.y × IsBetweenEnds g base.z m.zx m.zy m.zz k.z

@@ -31,7 +31,7 @@ use Rattle.wyckoff_rows.specs.declared.spans.Taken.{Taken}
 use Rattle.wyckoff_rows.specs.Shown.{row_cmp}
 use Rattle.wyckoff_rows.specs.Spanning.{AreFew, rest_of, taken_column, with_units}
 use Rattle.wyckoff_rows.specs.Spanning as spanning
-use Rattle.wyckoff_rows.specs.Steps.{IsNearAverage, AreKept, HasKeyOf, AreMet, HasGrown, IsGrownByAll, Extends, StandsFor, AreEnough, IsCovered, IsPlaceIn, IsInCoset, IsAlike, IsIn, IsPushed, IsBetweenEnds, AreTried, IsCandidate, IsVisited, last_set, IsKeptMore, IsAdded}
+use Rattle.wyckoff_rows.specs.Steps.{IsNearAverage, AreKept, HasKeyOf, AreMet, HasGrown, IsGrownByAll, Extends, StandsFor, AreEnough, IsCovered, IsPlaceIn, IsInCoset, IsAlike, IsIn, IsPushed, AreTried, IsCandidate, IsVisited, last_set, IsKeptMore, IsAdded}
 use Rattle.wyckoff_rows.specs.Table.{IsRowOfAverage, IsTableOf}
 use Rattle.wyckoff_rows.specs.Laws.{IsOnlyPlaceOf, IsPlaceOfBoth}
 
@@ -105,13 +105,6 @@ first_in = (omega (arith, ints), omega (arith, ints))
 
 end_not_in : IsIn range (pos 3) → ⊥
 end_not_in i = let l = i.1 in omega (arith, ints, l)
-
--- 96 lies from 120 - 48 to 120 + 96, and 48 does not
-twice_between : IsBetweenEnds (pos 48) (pos 120) (negsuc 0) (pos 2) o (pos 2)
-twice_between = (omega (arith, ints), omega (arith, ints))
-
-once_not : IsBetweenEnds (pos 48) (pos 120) (negsuc 0) (pos 2) o (pos 1) → ⊥
-once_not b = let l = b.0 in omega (arith, ints, l)
 
 -- ---- cosets, in P-1
 

@@ -9,7 +9,6 @@ mod NearFull
 mod Beginning
 mod Covering
 mod Pushing
-mod OpenEnds
 mod Ranging
 mod Pushed
 mod Quotients

@@ -7,8 +7,8 @@ use Rattle.lattice_algebra.specs.Operator.{AreWithin}
 use Rattle.lattice_algebra.proofs.Machine.{back, kept}
 use Rattle.exact_ops.specs.declared.TheConstants.{UNIT}
 use Rattle.group_closure.specs.declared.TheConstants.{MAX_OPERATORS}
-use Rattle.space_groups.specs.Intervals.{sum_below, sum_above}
-use Rattle.wyckoff_rows.specs.Steps.{IsIn, AreIn, open_end, IsBetweenEnds, AreBetweenEnds}
+use Rattle.space_groups.specs.Intervals.{sum_below, sum_above, open_end, IsBetweenEnds, AreBetweenEnds}
+use Rattle.wyckoff_rows.specs.Steps.{IsIn, AreIn}
 use Rattle.wyckoff_rows.specs.declared.ranges.Range.{Range}
 use Rattle.wyckoff_rows.specs.declared.ranges.Ranges.{Ranges}
 use Rattle.wyckoff_rows.proofs.Quotients.{quotient_range}

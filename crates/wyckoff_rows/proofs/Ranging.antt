@@ -16,7 +16,7 @@ use Rattle.group_closure.specs.GroupList.{IsGroup}
 use Rattle.site_symmetry.proofs.SpaceOfGroup.{space_of}
 use Rattle.space_groups.specs.Space.{IsElement, moved}
 use Rattle.space_groups.specs.Regions.{shift_by, SpansImage}
-use Rattle.space_groups.specs.Intervals.{differences, base_shift}
+use Rattle.space_groups.specs.Intervals.{differences, base_shift, AreBetweenEnds}
 use Rattle.space_groups.specs.Keys.{carried}
 use Rattle.space_groups.specs.Search.{Kept, IsKept}
 use Rattle.space_groups.proofs.Elements.{SpaceGroup, space, on_points}
@@ -25,14 +25,14 @@ use Rattle.space_groups.proofs.Carried.{image_along}
 use Rattle.space_groups.proofs.CarriedLists.{turned, turned_fixes}
 use Rattle.space_groups.proofs.Regions.{shift_in, shift_operator}
 use Rattle.space_groups.proofs.FirstCell.{carried_along, move_to_first_cell}
+use Rattle.space_groups.proofs.OpenEnds.{shift_between_ends, ends_between}
 use Rattle.space_groups.proofs.ShiftSizes.{shifts_within}
 use Rattle.space_groups.proofs.Rows.{some_members}
 use Rattle.affine_sets.specs.declared.TheConstants.{MAX_GROWN_SHIFT}
 use Rattle.group_closure.specs.declared.TheConstants.{MAX_OPERATORS}
 use Rattle.space_groups.proofs.Grown.{kept_average, kept_image}
-use Rattle.wyckoff_rows.specs.Steps.{StandsFor, AreIn, AreRanges, AreBetweenEnds}
+use Rattle.wyckoff_rows.specs.Steps.{StandsFor, AreIn, AreRanges}
 use Rattle.wyckoff_rows.specs.declared.ranges.Ranges.{Ranges}
-use Rattle.wyckoff_rows.proofs.OpenEnds.{shift_between_ends, ends_between}
 
 module _ (members : List Operator) (group : IsGroup members) (k : Kept) (is_kept : IsKept UNIT members k) where
   abbrev L : SpaceGroup

@@ -1,8 +1,7 @@
 -- What the steps of the search keep.
-use Rattle.std.specs.Prelude.{◌≡◌, ◌≢◌, ◌≤◌, ◌<◌, ◌+◌, ◌↔◌, ◌⊎◌, ℕ, ℤ, ◌+ℤ◌, ◌-ℤ◌, ◌*ℤ◌, ◌≤ℤ◌, ◌<ℤ◌, Bool, true, false, Some, List, [], ◌∷◌, ◌++◌, length, slice_get}
-use Rattle.std.specs.Int.{int_signum}
+use Rattle.std.specs.Prelude.{◌≡◌, ◌≢◌, ◌≤◌, ◌<◌, ◌+◌, ◌↔◌, ◌⊎◌, ℕ, ℤ, ◌≤ℤ◌, ◌<ℤ◌, Bool, true, false, Some, List, [], ◌∷◌, ◌++◌, length, slice_get}
 use Rattle.std.specs.List.{All, AllPairs, Contains}
-use Rattle.lattice_algebra.specs.Matrix.{Matrix, Column, coordinates}
+use Rattle.lattice_algebra.specs.Matrix.{Column, coordinates}
 use Rattle.lattice_algebra.specs.Operator.{Operator, product, IsInverse}
 use Rattle.lattice_algebra.specs.Map.{Map, operator_of}
 use Rattle.exact_ops.specs.declared.TheConstants.{UNIT}
@@ -18,7 +17,6 @@ use Rattle.affine_sets.specs.Conditions.{IsAverage}
 use Rattle.exact_ops.specs.Moves.{map_with}
 use Rattle.wyckoff_rows.specs.declared.ranges.Range.{Range}
 use Rattle.wyckoff_rows.specs.declared.ranges.Ranges.{Ranges}
-use Rattle.space_groups.specs.Intervals.{sum_below, sum_above}
 use Rattle.wyckoff_rows.specs.declared.entry.Entry.{Entry}
 use Rattle.wyckoff_rows.specs.declared.parts.Row.{Row}
 
@@ -116,19 +114,6 @@ pub record IsPushed (P : Column → Type 0) (f : Operator) (old new : List Map) 
   pub extends : (c : Map) → Contains old c → Contains new c
   pub more : (k : Column) → P k → Contains new (map_with f (coordinates k))
   pub only : (c : Map) → Contains new c → Contains old c ⊎ ((k : Column) × P k × (map_with f (coordinates k) ≡ c))
-
--- the last whole number before base + g s on the way there from base, which is base itself where s is 0
-abbrev pub open_end : ℤ → ℤ → ℤ → ℤ
-open_end g base s = base +ℤ g *ℤ s -ℤ int_signum s
-
--- g times k lies between two ends, which lie from the base by g times the sum of those of the three numbers that are below 0, and by that of
--- those above: an end is left out where it is not the base
-abbrev pub IsBetweenEnds : ℤ → ℤ → ℤ → ℤ → ℤ → ℤ → Type 0
-IsBetweenEnds g base a b c k = (open_end g base (sum_below a b c) ≤ℤ (g *ℤ k)) × ((g *ℤ k) ≤ℤ open_end g base (sum_above a b c))
-
--- and so for each coordinate, with the three numbers of its row
-abbrev pub AreBetweenEnds : ℤ → Column → Matrix → Column → Type 0
-AreBetweenEnds g base m k = IsBetweenEnds g base.x m.xx m.xy m.xz k.x × IsBetweenEnds g base.y m.yx m.yy m.yz k.y × IsBetweenEnds g base.z m.zx m.zy m.zz k.z
 
 -- the operators at the places below i, and those that are marked, are covered
 abbrev pub AreTried : List Operator → List Map → List Map → List Bool → ℕ → Type 0

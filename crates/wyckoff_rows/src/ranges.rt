@@ -7,10 +7,10 @@ ghost use Rattle.lattice_algebra.specs.Operator.{Operator, AreWithin, HasEntries
 ghost use Rattle.exact_ops.specs.declared.TheConstants.{UNIT as PARTS};
 ghost use Rattle.exact_ops.specs.Fields.{matrix_in};
 ghost use Rattle.group_closure.specs.declared.TheConstants.{MAX_OPERATORS};
-ghost use Rattle.space_groups.specs.Intervals.{differences, base_shift, sum_below, sum_above};
+ghost use Rattle.space_groups.specs.Intervals.{differences, base_shift, sum_below, sum_above, open_end, IsBetweenEnds, AreBetweenEnds};
 ghost use Rattle.affine_sets.specs.declared.TheConstants.{MAX_GROWN_SHIFT, MAX_NEAR_SHIFT};
 ghost use Rattle.affine_sets.specs.Fields.{offset_in};
-ghost use Rattle.wyckoff_rows.specs.Steps.{IsEntry, IsIn, AreIn, AreRanges, open_end, IsBetweenEnds, AreBetweenEnds};
+ghost use Rattle.wyckoff_rows.specs.Steps.{IsEntry, IsIn, AreIn, AreRanges};
 
 use crate::entry::Entry;
 use crate::spans::whole_columns;

@@ -13,9 +13,8 @@ use Rattle.lattice_algebra.proofs.Columns.{cancel_column}
 use Rattle.space_groups.specs.Space.{ScaledPoint, moved}
 use Rattle.space_groups.specs.Averages.{Block}
 use Rattle.space_groups.specs.Regions.{IsInFirstCell}
-use Rattle.space_groups.specs.Intervals.{differences, base_shift, sum_below, sum_above, sums_below, sums_above, lowest, highest, IsBetween}
+use Rattle.space_groups.specs.Intervals.{differences, base_shift, sum_below, sum_above, sums_below, sums_above, lowest, highest, IsBetween, IsBetweenEnds, AreBetweenEnds}
 use Rattle.space_groups.proofs.Intervals.{shift_equation, shift_is_between}
-use Rattle.wyckoff_rows.specs.Steps.{IsBetweenEnds, AreBetweenEnds}
 
 -- ---- signs
 
