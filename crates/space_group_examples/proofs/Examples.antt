@@ -20,7 +20,7 @@ use Rattle.space_groups.specs.Averages.{Block, Vector, vector_plus, block_of, bl
 use Rattle.space_groups.specs.Keys.{Key, carried, key_of, IsBelow, ComesBefore}
 use Rattle.space_groups.specs.Regions as Regions
 use Rattle.space_groups.specs.Regions.{IsWhole, AreWholeColumns, SpansImage, IsInFirstCell, shift_by}
-use Rattle.space_groups.specs.Intervals.{differences, base_shift, sums_below, sums_above, lowest, highest, IsBetween}
+use Rattle.space_groups.specs.Intervals.{differences, base_shift, sums_below, sums_above, lowest, highest, IsBetween, IsBetweenEnds, AreBetweenEnds}
 use Rattle.space_groups.specs.Rows.{row_point, Lies, Row, IsRowBefore, IsAt}
 use Rattle.space_groups.proofs.Elements.{SpaceGroup}
 use Rattle.space_groups.proofs.Regions.{shift_in}
@@ -285,6 +285,20 @@ three_between = record { x = (omega (arith, ints), omega (arith, ints)); y = (om
 
 two_not_between : IsBetween (pos 48) (column (pos 120) (negsuc 119) o) (column (pos 216) (negsuc 23) o) (column (pos 2) (negsuc 1) o) → ⊥
 two_not_between b = let x = b.x.0 in omega (arith, ints, x)
+
+-- 96 lies from 120 - 48 to 120 + 96, and 48 does not
+twice_between : IsBetweenEnds (pos 48) (pos 120) (negsuc 0) (pos 2) o (pos 2)
+twice_between = (omega (arith, ints), omega (arith, ints))
+
+once_not : IsBetweenEnds (pos 48) (pos 120) (negsuc 0) (pos 2) o (pos 1) → ⊥
+once_not b = let l = b.0 in omega (arith, ints, l)
+
+-- 192 is the end 96 + 96, which is left out; 96 is the base and both ends where all three numbers are 0
+the_end_not : IsBetweenEnds (pos 48) (pos 96) (negsuc 0) (pos 2) o (pos 4) → ⊥
+the_end_not b = let l = b.1 in omega (arith, ints, l)
+
+the_base_between : AreBetweenEnds (pos 48) (column (pos 96) o o) no_matrix (column (pos 2) o o)
+the_base_between = ((omega (arith, ints), omega (arith, ints)), (omega (arith, ints), omega (arith, ints)), (omega (arith, ints), omega (arith, ints)))
 
 -- a turn about z leaves the direction z as it is, and the inversion does not
 turned_nothing : differences threefold (matrix_of (o ∷ o ∷ o ∷ o ∷ o ∷ o ∷ o ∷ o ∷ pos 2 ∷ [])) ≡ no_matrix

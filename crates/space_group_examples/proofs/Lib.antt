@@ -1,3 +1,5 @@
 mod Examples
 mod Changes
 mod Inversion
+mod NineRows
+mod InversionPoints
