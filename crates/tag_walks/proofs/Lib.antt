@@ -2,3 +2,4 @@ pub mod Digits
 pub mod Walks
 pub mod Firsts
 pub mod Whole
+mod Examples
