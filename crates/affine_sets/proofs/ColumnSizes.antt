@@ -1,8 +1,9 @@
 -- The least numbers that make the columns of a matrix whole, by greatest common divisors.
-use Rattle.std.proofs.Common.{◌≡◌, ◌++◌, ◌∷◌, [], ◌≤◌, ◌<◌, ◌*◌, ◌/◌, ℕ, ℤ, pos, ◌*ℤ◌, unsigned_abs, w32, ap, subst, ◌∙◌, arith}
+use Rattle.std.proofs.Common.{◌≡◌, ◌++◌, ◌∷◌, [], ◌≤◌, ◌<◌, ◌*◌, ◌/◌, ℕ, ℤ, pos, ◌*ℤ◌, unsigned_abs, w32, ap, sym, subst, ◌∙◌, arith}
 use Rattle.std.specs.Int.{IsGcd, ◌∣◌}
+use Rattle.std.proofs.lemmas.Int.{unsigned_abs-mul}
 use Rattle.std.proofs.lemmas.Nat.Gcd.{dvd_trans}
-use Rattle.std.proofs.Math.Nat.{mul-div_cancel', pos_of_dvd_of_pos}
+use Rattle.std.proofs.Math.Nat.{mul-div_cancel', pos_of_dvd_of_pos, dvd-mul_right}
 use Rattle.lattice_algebra.specs.Matrix.{Matrix, Column, entries, coordinates, scaled, ◌·◌}
 use Rattle.lattice_algebra.proofs.Ring.{var, ◌⊗◌, ring}
 use Rattle.lattice_algebra.proofs.MatrixRing.{matrix_at, column_at, ◌·ˢ◌, matrix_ring}
@@ -33,6 +34,10 @@ common a b c over x y z some f g h =
       second = dvd_trans z h.1 g.0;
       third = h.0;
     }
+
+-- a number divides the size of each multiple of it
+pub divides_multiple : (x : ℤ) (g : ℕ) (b : ℤ) → x ≡ pos g *ℤ b → g ∣ unsigned_abs x
+divides_multiple x g b e = subst (λ n. g ∣ n) (sym (ap unsigned_abs e ∙ unsigned_abs-mul (pos g) b)) (dvd-mul_right g (unsigned_abs b))
 
 -- q times a is a multiple of over
 abbrev pub IsWholeEntry : ℤ → ℕ → ℕ → Type 0

@@ -2,7 +2,7 @@
 use Rattle.std.proofs.Common.{◌≡◌, ◌++◌, ◌∷◌, [], ◌<◌, ◌≤◌, ◌⊎◌, ℕ, ℤ, pos, negsuc, ◌+ℤ◌, ◌-ℤ◌, ◌*ℤ◌, neg_ℤ, unsigned_abs, w32, ap, ap₂, sym, subst, ◌∙◌, ⊎_elim, arith}
 use Rattle.std.proofs.lemmas.Int.{ints}
 use Rattle.std.specs.Int.{int_div_euclid, int_rem_euclid}
-use Rattle.lattice_algebra.specs.Matrix.{Matrix, Column, entries, coordinates, scaled, ◌·◌, ◌·ᶜ◌, ◌+ᶜ◌, times}
+use Rattle.lattice_algebra.specs.Matrix.{Matrix, Column, entries, coordinates, scaled, ◌·◌, ◌·ᶜ◌, ◌+ᶜ◌, neg_column, times}
 use Rattle.lattice_algebra.specs.Operator.{AreWithin, HasEntriesWithin}
 use Rattle.lattice_algebra.proofs.Machine.{back, kept}
 use Rattle.lattice_algebra.proofs.Numbers.{abs_add, abs_sub}
@@ -194,6 +194,31 @@ opposite_but_cells n a b c p q e = (
     z = taken_once a.z b.z (pos n *ℤ c.z) (sym (passed_sum a.z b.z p.third q.third) ∙ ap (λ (v : Column). v.z) e) i;
   },
 )
+
+less_is : (a b k : ℤ) → a ≡ b +ℤ k → a -ℤ b ≡ k
+less_is a b k e = omega (arith, ints)
+
+sum_is : (a b k : ℤ) → a ≡ neg_ℤ b +ℤ k → a +ℤ b ≡ k
+sum_is a b k e = omega (arith, ints)
+
+-- and back
+pub cells_less : (n : ℕ) (a b c : Column) → AreWithin 384 a.x a.y a.z → AreWithin 384 b.x b.y b.z → a ≡ b +ᶜ times (pos n) c
+    → record { x = back w32 (back w32 a.x -ℤ back w32 b.x); y = back w32 (back w32 a.y -ℤ back w32 b.y); z = back w32 (back w32 a.z -ℤ back w32 b.z) } ≡ times (pos n) c
+unfolding ◌+ᶜ◌ times
+cells_less n a b c p q e = λ i. record {
+  x = (passed_less a.x b.x p.first q.first ∙ less_is a.x b.x (pos n *ℤ c.x) (ap (λ (v : Column). v.x) e)) i;
+  y = (passed_less a.y b.y p.second q.second ∙ less_is a.y b.y (pos n *ℤ c.y) (ap (λ (v : Column). v.y) e)) i;
+  z = (passed_less a.z b.z p.third q.third ∙ less_is a.z b.z (pos n *ℤ c.z) (ap (λ (v : Column). v.z) e)) i;
+}
+
+pub cells_sum : (n : ℕ) (a b c : Column) → AreWithin 384 a.x a.y a.z → AreWithin 384 b.x b.y b.z → a ≡ neg_column b +ᶜ times (pos n) c
+    → record { x = back w32 (back w32 a.x +ℤ back w32 b.x); y = back w32 (back w32 a.y +ℤ back w32 b.y); z = back w32 (back w32 a.z +ℤ back w32 b.z) } ≡ times (pos n) c
+unfolding ◌+ᶜ◌ neg_column times
+cells_sum n a b c p q e = λ i. record {
+  x = (passed_sum a.x b.x p.first q.first ∙ sum_is a.x b.x (pos n *ℤ c.x) (ap (λ (v : Column). v.x) e)) i;
+  y = (passed_sum a.y b.y p.second q.second ∙ sum_is a.y b.y (pos n *ℤ c.y) (ap (λ (v : Column). v.y) e)) i;
+  z = (passed_sum a.z b.z p.third q.third ∙ sum_is a.z b.z (pos n *ℤ c.z) (ap (λ (v : Column). v.z) e)) i;
+}
 
 -- ---- the sizes that are tried
 

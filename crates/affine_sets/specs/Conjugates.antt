@@ -106,6 +106,10 @@ AreEnoughFor q m n = (k : Column) → (i : ℕ) × (i < q.x * q.y * q.z) × (c :
 abbrev pub IsMultiple : Column → Column → ℕ → Type 0
 IsMultiple a b n = (e : ℤ) × (c : Column) × (b ≡ times e a +ᶜ times (pos n) c)
 
+-- the column b is a or its opposite, but for whole cells over n
+abbrev pub IsSameOrOpposite : Column → Column → ℕ → Type 0
+IsSameOrOpposite a b n = (c : Column) × ((b ≡ a +ᶜ times (pos n) c) ⊎ (b ≡ neg_column a +ᶜ times (pos n) c))
+
 -- ---- the first of some conjugates
 
 -- the key p has the matrix m, and is that of a conjugate of s

@@ -11,7 +11,7 @@ ghost use Rattle.space_groups.specs.Keys.{IsBelow, IsKey, ComesBefore, Key as An
 ghost use Rattle.affine_sets.specs.Fields.{offset_in};
 ghost use Rattle.affine_sets.specs.Averages.{IsKeyInCell};
 ghost use Rattle.affine_sets.specs.Conditions.{IsAverage};
-ghost use Rattle.affine_sets.specs.Conjugates.{IsLeftOf, turned_matrix, carried_key, moved_key, IsGreatestBefore, AreListed, IsWithRun, AreSizes, AreWholeFor, AreEnoughFor, IsMultiple, shift_number, IsCandidate, IsNoLater, AreNotBefore};
+ghost use Rattle.affine_sets.specs.Conjugates.{IsLeftOf, turned_matrix, carried_key, moved_key, IsGreatestBefore, AreListed, IsWithRun, AreSizes, AreWholeFor, AreEnoughFor, IsMultiple, IsSameOrOpposite, shift_number, IsCandidate, IsNoLater, AreNotBefore};
 
 use crate::numbers::{Offset, image, offset_difference, offset_multiple, offset_sum, product};
 use crate::parts::Key;
@@ -267,8 +267,10 @@ fn size_beside(other: &Vector, column: &Vector, known: u32, over: u16) -> u32
     requires some { 0 < over }
     requires other { AreWithin 384 other.now.x other.now.y other.now.z }
     requires column { AreWithin 384 column.now.x column.now.y column.now.z }
-    ensures { (result ≡ known)
+    ensures value { (result ≡ known)
         ⊎ ((result ≡ 1) × IsMultiple (column_in other.now) (column_in column.now) over) }
+    ensures one { IsSameOrOpposite (column_in other.now) (column_in column.now) over
+        → result ≡ 1 }
 {
     if are_whole(
         column.x - other.x,
@@ -292,7 +294,8 @@ fn size_beside(other: &Vector, column: &Vector, known: u32, over: u16) -> u32
 /// Whether the three numbers are multiples of `over`.
 fn are_whole(x: i32, y: i32, z: i32, over: u16) -> bool
     requires some { 0 < over }
-    ensures { IsTrue result → (c : Column) × (record { x = x; y = y; z = z } ≡ times (pos over) c) }
+    ensures { IsTrue result
+        ↔ ((c : Column) × (record { x = x; y = y; z = z } ≡ times (pos over) c)) }
 {
     if !is_whole(x, over) {
         return false;
@@ -306,7 +309,7 @@ fn are_whole(x: i32, y: i32, z: i32, over: u16) -> bool
 /// Whether the number is a multiple of `over`.
 fn is_whole(a: i32, over: u16) -> bool
     requires some { 0 < over }
-    ensures { IsTrue result → (k : ℤ) × (a ≡ pos over *ℤ k) }
+    ensures { IsTrue result ↔ ((k : ℤ) × (a ≡ pos over *ℤ k)) }
 {
     a.unsigned_abs() % u32::from(over) == 0
 }
