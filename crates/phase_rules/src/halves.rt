@@ -5,8 +5,7 @@ ghost use Rattle.phase_rules.specs.Halves.{AreBelow};
 
 use group_closure::Group;
 
-/// True only where there is a member at i, and false only where all from there on are of the second half: there is none at i, or
-/// the members with the opposite matrix stand before it.
+/// True only where there is a member at i, and false only where all from there on are of the second half.
 pub fn stands_first(group: &Group, i: u8) -> bool
     ensures within { IsTrue result → i < length group.now }
     ensures behind { result ≡ false → AreBelow group.now i }

@@ -18,7 +18,7 @@ use std::alloc::Global;
 
 /// Elements by which it suffices to grow a kept group: any other that fixes one of its fixed points fixes as many of them as
 /// one of these, up to an element of the space group. Of the operators only one of each double coset of the group is taken,
-/// and none whose inverse was.
+/// and none whose inverse was, though no clause says so.
 pub fn candidates(alloc: Global, g: &Group, entry: &Entry) -> Result<Vec<Move>, NoMemory>
     requires { IsEntry g.now entry.now }
     ensures enough { IfOk result (λ list. AreEnough g.now entry.now.set (map map_in list.items)) }
@@ -43,7 +43,7 @@ fn none_tried() -> [bool; MAX_OPERATORS]
     [false; MAX_OPERATORS]
 }
 
-/// The places of the operators of the elements of a group.
+/// Places of operators of elements of a group: of each, though no clause says so.
 fn places_of(alloc: Global, g: &Group, set: &Sub) -> Result<Vec<u8>, NoMemory>
     requires { AreElements g.now set.now }
     ensures { IfOk result (λ places. All (IsPlaceIn g.now set.now) places.items) }
@@ -57,8 +57,8 @@ fn places_of(alloc: Global, g: &Group, set: &Sub) -> Result<Vec<u8>, NoMemory>
     Ok(places)
 }
 
-/// Marks the operators of the double coset of a group, whose operators are at these places, to which the one at place i belongs,
-/// and their inverses.
+/// Marks no operator but those of the double coset of a group, whose operators are at these places, to which the one at place i
+/// belongs, and their inverses: all of these, though no clause says so.
 fn mark(g: &Group, places: &[u8], i: u8, tried: &mut [bool; MAX_OPERATORS])
     requires group { IsGroup g.now }
     requires place { i < length g.now }
@@ -73,7 +73,8 @@ fn mark(g: &Group, places: &[u8], i: u8, tried: &mut [bool; MAX_OPERATORS])
     }
 }
 
-/// Marks those that are made by the operators at these places after the one at place j, and their inverses.
+/// Marks no operator but those that are made by the operators at these places after the one at place j, and their inverses: all
+/// of these, though no clause says so.
 fn mark_coset(g: &Group, places: &[u8], j: u8, tried: &mut [bool; MAX_OPERATORS])
     requires group { IsGroup g.now }
     requires place { j < length g.now }

@@ -57,8 +57,8 @@ const CHOICES: [Taken; 6] = [
     },
 ];
 
-/// Of each column of the matrix of an average that is taken the least multiple that is whole, and 0 for the others. They span
-/// its image.
+/// Columns that are whole shifts along the image of an average, and span it: of each column of its matrix that is taken the
+/// least multiple that is whole, and 0 for the others, though no clause says which.
 pub fn whole_columns(s: &Special) -> Rotation
     ensures spans { SpansImage s.now (matrix_in result) }
     ensures size { HasEntriesWithin (2 * MAX_OPERATORS) (matrix_in result) }
@@ -79,7 +79,8 @@ pub fn whole_columns(s: &Special) -> Rotation
     }
 }
 
-/// The least numbers that make columns of an idempotent matrix whole, and 0 for those that are combinations of the others.
+/// Numbers that make the columns of an idempotent matrix whole, which are enough then: the least ones, and 0 for those that are
+/// combinations of the others, though no clause says so.
 fn spanning_sizes(m: &Rotation, over: u16) -> Sizes
     requires some { 0 < over }
     requires few { over ≤ MAX_OPERATORS }
