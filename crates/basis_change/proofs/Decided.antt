@@ -19,7 +19,7 @@ use Rattle.space_groups.specs.Regions.{shift_by}
 use Rattle.space_groups.specs.Bases.{CoordinateChange, IsChange, IsInChanged, IsCell, AreWhole, AreNarrow, AreInParts, x_cell, y_cell, z_cell}
 use Rattle.space_groups.proofs.Changes.{cancel_matrix_end}
 use Rattle.space_groups.proofs.CellTests.{matrix_test, translation_found, translation_needs, cell_test}
-use Rattle.basis_change.specs.Frames.{generators, HasMatrix, HasNarrowMatrix, HasMap}
+use Rattle.basis_change.specs.Frames.{generators, HasWholeMatrix, HasNarrowMatrix, HasMap}
 use Rattle.basis_change.proofs.Frames.{positive_some}
 use Rattle.basis_change.proofs.Quotients.{x_row, y_row, z_row, of_rows, column_quotient, quotients_of, matrix_quotient, rows_of}
 use Rattle.basis_change.proofs.Generators.{the_space, whole, narrow, parts}
@@ -88,7 +88,7 @@ element_or_not members g =
 -- ---- what a change asks of an element
 
 module _ (c : CoordinateChange) (i : IsChange c) where
-  matrix_there_or_not : (g : Map) → OrNot (HasMatrix c g)
+  matrix_there_or_not : (g : Map) → OrNot (HasWholeMatrix c g)
   matrix_there_or_not g =
       likewise (matrix_or_not i.invertible.k (c.w · g.w · i.invertible.v) i.invertible.some)
       (λ p. (p.0, (matrix_test c.w i.invertible g.w p.0).1 p.1)) (λ h. (h.0, (matrix_test c.w i.invertible g.w h.0).0 h.1))
@@ -110,7 +110,7 @@ module _ (c : CoordinateChange) (i : IsChange c) where
 
   module _ (members : List Operator) (group : IsGroup members) where
     pub whole_or_not : OrNot (AreWhole UNIT members c)
-    whole_or_not = let w = whole members group c in likewise (all_or_not (HasMatrix c) matrix_there_or_not (generators members)) w.0 w.1
+    whole_or_not = let w = whole members group c in likewise (all_or_not (HasWholeMatrix c) matrix_there_or_not (generators members)) w.0 w.1
 
     pub narrow_or_not : OrNot (AreNarrow UNIT members c)
     narrow_or_not = let w = narrow members group c in likewise (all_or_not (HasNarrowMatrix c) narrow_there_or_not (generators members)) w.0 w.1

@@ -20,8 +20,8 @@ use Rattle.basis_change.specs.declared.wide.WideVector.{WideVector}
 use Rattle.basis_change.specs.declared.frame.Frame.{Frame}
 use Rattle.basis_change.specs.declared.cell.RecellFault.TheVariants.{NotCell, NotWhole, Wide, Fine}
 use Rattle.basis_change.specs.Wide.{stored_wide}
-use Rattle.basis_change.specs.Changes.{IsKept, IsCellKept, MayClose, IsRefusedAs, IsRecelled}
-use Rattle.basis_change.specs.Frames.{IsFrame, generators, HasMatrix, HasNarrowMatrix, HasMap, AreChanged}
+use Rattle.basis_change.specs.Changes.{IsStoredChange, IsStoredCellChange, MayClose, IsRefusedAs, IsRecelled}
+use Rattle.basis_change.specs.Frames.{IsFrame, generators, HasWholeMatrix, HasNarrowMatrix, HasMap, AreChanged}
 use Rattle.basis_change.specs.Laws.{changed_row, MovesSites, KeepsAbsences}
 
 abbrev o : ℤ
@@ -39,11 +39,11 @@ shift x y z = record { w = identity; s = column x y z }
 -- ---- changes that are kept
 
 -- the inverse of the matrix of x+y,y,z is that of x-y,y,z, and not itself
-kept : IsKept (sheared (pos 1)) (column (pos 3) o o) (sheared (negsuc 0))
+kept : IsStoredChange (sheared (pos 1)) (column (pos 3) o o) (sheared (negsuc 0))
 unfolding ◌·◌ det adjugate scaled
 kept = record { unimodular = (sheared (negsuc 0), refl, refl); within = omega arith; in_cell = record { x = (omega (arith, ints), omega (arith, ints)); y = (omega (arith, ints), omega (arith, ints)); z = (omega (arith, ints), omega (arith, ints)) }; inverse = refl; inverse_within = omega arith }
 
-not_itself : IsKept (sheared (pos 1)) (column (pos 3) o o) (sheared (pos 1)) → ⊥
+not_itself : IsStoredChange (sheared (pos 1)) (column (pos 3) o o) (sheared (pos 1)) → ⊥
 unfolding det adjugate scaled
 not_itself k = let e : pos 1 ≡ negsuc 0 = ap (λ (m : Matrix). m.xy) k.inverse in omega (arith, ints)
 
@@ -51,15 +51,15 @@ not_itself k = let e : pos 1 ≡ negsuc 0 = ap (λ (m : Matrix). m.xy) k.inverse
 abbrev eighth : CoordinateChange
 eighth = record { w = diagonal (pos 1) (pos 8) (pos 8); t = origin; d = pos 8 }
 
-cell_kept : IsCellKept eighth.w origin 8
+cell_kept : IsStoredCellChange eighth.w origin 8
 unfolding det
 cell_kept = record { within = omega arith; some = λ e. omega (arith, ints, e); in_cell = record { x = (omega (arith, ints), omega (arith, ints)); y = (omega (arith, ints), omega (arith, ints)); z = (omega (arith, ints), omega (arith, ints)) }; first = omega arith; last = omega arith }
 
-no_inverse : IsCellKept (diagonal (pos 1) (pos 8) o) origin 8 → ⊥
+no_inverse : IsStoredCellChange (diagonal (pos 1) (pos 8) o) origin 8 → ⊥
 unfolding det
 no_inverse k = k.some refl
 
-no_denominator : IsCellKept eighth.w origin 0 → ⊥
+no_denominator : IsStoredCellChange eighth.w origin 0 → ⊥
 no_denominator k = omega (arith, k.first)
 
 -- its inverse is that of 8*x,y,z: the matrix diag(64,8,8) over 64, and no other
@@ -95,7 +95,7 @@ cell_of members c = record {
 }
 
 -- the matrix of a translation is the identity in each cell
-whole_of : (g : Map) → g.w ≡ identity → HasMatrix eighth g
+whole_of : (g : Map) → g.w ≡ identity → HasWholeMatrix eighth g
 unfolding ◌·◌
 whole_of g e = (identity, ap (λ m. eighth.w · m) (sym e))
 
@@ -190,7 +190,7 @@ fourfold = record { w = matrix_of (o ∷ negsuc 0 ∷ o ∷ pos 1 ∷ o ∷ o �
 abbrev four : List Operator
 four = identity_operator ∷ fourfold ∷ record { w = diagonal (negsuc 0) (negsuc 0) (pos 1); t = origin } ∷ record { w = matrix_of (o ∷ pos 1 ∷ o ∷ negsuc 0 ∷ o ∷ o ∷ o ∷ o ∷ pos 1 ∷ []); t = origin } ∷ []
 
-no_matrix_of_fourfold : HasMatrix eighth (map_of fourfold) → ⊥
+no_matrix_of_fourfold : HasWholeMatrix eighth (map_of fourfold) → ⊥
 unfolding ◌·◌
 no_matrix_of_fourfold h = by h.0.xx h.0.xy h.0.xz (ap (λ (m : Matrix). m.xy) h.1)
   where

@@ -23,7 +23,7 @@ use Rattle.space_groups.proofs.CellTests.{matrix_test, translation_found, transl
 use Rattle.basis_change.specs.declared.TheConstants.{MAX_CELL}
 use Rattle.basis_change.specs.Wide.{wide_matrix, wide_column, WIDE}
 use Rattle.basis_change.specs.declared.frame.Frame.{Frame}
-use Rattle.basis_change.specs.Frames.{IsFrame, change_in, cells, HasMatrix, HasMap}
+use Rattle.basis_change.specs.Frames.{IsFrame, change_in, cells, HasWholeMatrix, HasMap}
 
 -- ---- sizes
 
@@ -100,7 +100,7 @@ module _ (f : Frame) (r : IsFrame f) where
     pub map_has_column : HasMap c g → (q : Column) × (times c.d q ≡ c.w ·ᶜ g.s)
     map_has_column h = translation_needs c g h.0 h.1
 
-    pub map_has_matrix : HasMap c g → HasMatrix c g
+    pub map_has_matrix : HasMap c g → HasWholeMatrix c g
     map_has_matrix h = (h.0.w, h.1.rotation)
 
     pub changed_value : (m : Matrix) (q : Column) (w t : List ℤ) → m · c.w ≡ c.w · g.w → times c.d q ≡ c.w ·ᶜ g.s → matrix_of w ≡ m → column_of t ≡ modulo UNIT (q +ᶜ c.t +ᶜ neg_column (m ·ᶜ c.t)) → (h : Map) × IsChanged c g h × (numbers_of w t ≡ operator_of UNIT h)

@@ -26,7 +26,7 @@ use Rattle.lattice_algebra.proofs.Columns.{cancel_column}
 use Rattle.basis_change.specs.declared.frame.Frame.{Frame}
 use Rattle.basis_change.specs.Wide.{wide_matrix}
 use Rattle.basis_change.proofs.Frames.{is_change}
-use Rattle.basis_change.specs.Frames.{IsFrame, change_in, generators, cells, HasMatrix, HasNarrowMatrix, HasMap, AreChanged}
+use Rattle.basis_change.specs.Frames.{IsFrame, change_in, generators, cells, HasWholeMatrix, HasNarrowMatrix, HasMap, AreChanged}
 
 pub operator_w : (g : Map) → (operator_of UNIT g).w ≡ g.w
 unfolding operator_of
@@ -119,10 +119,10 @@ module _ (members : List Operator) (group : IsGroup members) where
 
   module _ (c : CoordinateChange) where
     -- the matrix of an element is that of a member
-    pub whole : All (HasMatrix c) (generators members) ↔ AreWhole UNIT members c
+    pub whole : All (HasWholeMatrix c) (generators members) ↔ AreWhole UNIT members c
     whole = (
-      (λ a g m. let r = All-contains (HasMatrix c) (generators members) (map_of (operator_of UNIT g)) a (member_generator (operator_of UNIT g) m) in (r.0, r.1 ∙ ap (λ w. c.w · w) (operator_w g))),
-      (λ h. all_generators (HasMatrix c) h),
+      (λ a g m. let r = All-contains (HasWholeMatrix c) (generators members) (map_of (operator_of UNIT g)) a (member_generator (operator_of UNIT g) m) in (r.0, r.1 ∙ ap (λ w. c.w · w) (operator_w g))),
+      (λ h. all_generators (HasWholeMatrix c) h),
     )
 
     pub narrow : All (HasNarrowMatrix c) (generators members) ↔ AreNarrow UNIT members c

@@ -12,7 +12,7 @@ use Rattle.basis_change.specs.declared.cell.RecellFault.{RecellFault}
 use Rattle.basis_change.specs.declared.cell.RecellFault.TheVariants.{NotCell, NotWhole, Wide, Fine, Many, NoMemory}
 
 -- Q is unimodular and in the range of what is read, q lies in the cell, and P is the inverse of Q
-pub record IsKept (q : Matrix) (origin : Column) (p : Matrix) : Type 0 where
+pub record IsStoredChange (q : Matrix) (origin : Column) (p : Matrix) : Type 0 where
   pub unimodular : IsUnimodular q
   pub within : HasEntriesWithin MAX_ENTRY q
   pub in_cell : AreParts UNIT origin
@@ -20,7 +20,7 @@ pub record IsKept (q : Matrix) (origin : Column) (p : Matrix) : Type 0 where
   pub inverse_within : HasEntriesWithin WIDE p
 
 -- W is invertible and in range, t lies in the cell, and the denominator is in range
-pub record IsCellKept (w : Matrix) (origin : Column) (d : ℕ) : Type 0 where
+pub record IsStoredCellChange (w : Matrix) (origin : Column) (d : ℕ) : Type 0 where
   pub within : HasEntriesWithin MAX_CELL w
   pub some : det w ≢ pos 0
   pub in_cell : AreParts UNIT origin

@@ -43,8 +43,8 @@ generators members = map map_of members ++ map (shift_by UNIT) cells
 -- ---- what a change asks of each of them
 
 -- the changed matrix is whole
-abbrev pub HasMatrix : CoordinateChange → Map → Type 0
-HasMatrix c g = (m : Matrix) × (m · c.w ≡ c.w · g.w)
+abbrev pub HasWholeMatrix : CoordinateChange → Map → Type 0
+HasWholeMatrix c g = (m : Matrix) × (m · c.w ≡ c.w · g.w)
 
 -- and has no entry beyond 2
 abbrev pub HasNarrowMatrix : CoordinateChange → Map → Type 0

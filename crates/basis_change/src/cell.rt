@@ -34,11 +34,11 @@ impl Model for CellChange {
     ghost Value = { CoordinateChange };
 
     ghost use Rattle.exact_ops.specs.Fields.{matrix_in, column_in, stored_matrix, stored_column};
-    ghost use Rattle.basis_change.specs.Changes.{IsCellKept};
+    ghost use Rattle.basis_change.specs.Changes.{IsStoredCellChange};
 
     ghost view = { λ a. record { w = matrix_in a.w; t = column_in a.origin; d = pos a.d } };
 
-    ghost invariant = { λ a. IsCellKept (matrix_in a.w) (column_in a.origin) a.d };
+    ghost invariant = { λ a. IsStoredCellChange (matrix_in a.w) (column_in a.origin) a.d };
 
     ghost inverse = { λ c.
         record { w = stored_matrix c.w; origin = stored_column c.t; d = unsigned_abs c.d } };

@@ -9,7 +9,7 @@ ghost use Rattle.exact_ops.specs.Fields.{matrix_in, column_in};
 ghost use Rattle.space_groups.specs.Bases.{IsChanged};
 ghost use Rattle.basis_change.specs.declared.TheConstants.{MAX_CELL};
 ghost use Rattle.basis_change.specs.Wide.{wide_matrix, wide_column, WIDE};
-ghost use Rattle.basis_change.specs.Frames.{IsFrame, change_in, map_in, HasMatrix, HasNarrowMatrix, HasMap};
+ghost use Rattle.basis_change.specs.Frames.{IsFrame, change_in, map_in, HasWholeMatrix, HasNarrowMatrix, HasMap};
 
 use crate::generator::Generator;
 use crate::wide::{WideMatrix, WideVector};

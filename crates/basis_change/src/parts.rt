@@ -36,11 +36,11 @@ impl Model for Change {
 
     ghost use Rattle.exact_ops.specs.Fields.{matrix_in, column_in, stored_matrix, stored_column};
     ghost use Rattle.basis_change.specs.Wide.{wide_matrix, stored_wide};
-    ghost use Rattle.basis_change.specs.Changes.{IsKept};
+    ghost use Rattle.basis_change.specs.Changes.{IsStoredChange};
 
     ghost view = { λ a. record { w = matrix_in a.q; t = column_in a.origin; d = pos 1 } };
 
-    ghost invariant = { λ a. IsKept (matrix_in a.q) (column_in a.origin) (wide_matrix a.p) };
+    ghost invariant = { λ a. IsStoredChange (matrix_in a.q) (column_in a.origin) (wide_matrix a.p) };
 
     ghost inverse = { λ c. record {
       q = stored_matrix c.w;

@@ -13,7 +13,7 @@ use Rattle.group_closure.specs.declared.closing.Making.{Making}
 use Rattle.group_closure.specs.GroupList.{IsGroup}
 use Rattle.group_closure.specs.Words.{AreDistinct}
 use Rattle.group_closure.specs.Making.{IsMade}
-use Rattle.group_closure.specs.Table.{AreRanks, IsTableRow, IsTable}
+use Rattle.group_closure.specs.Table.{AreRanks, IsTableRow, IsProductTable}
 use Rattle.group_closure.proofs.CellOperators.{cell_operators}
 use Rattle.group_closure.proofs.Origins.{one_there, get_before, get_last}
 use Rattle.group_closure.proofs.Places.{contains_at, one_place, apart, inverse_member, inverse_by_product, some_at}
@@ -161,7 +161,7 @@ module _ (members : List Operator) (group : IsGroup members) (f : Operator) (row
         inverse_by_product members f g.0 group c (contains_at members g.0 k g.1) one,
       )
 
-  pub table_more : (table : List (List ℕ)) (inverses : List ℕ) (i k : ℕ) → IsTable members table inverses i → slice_get members i ≡ Some f → k < length members → get_or row k 0 ≡ 0 → IsTable members (table ++ row ∷ []) (inverses ++ k ∷ []) (i + 1)
+  pub table_more : (table : List (List ℕ)) (inverses : List ℕ) (i k : ℕ) → IsProductTable members table inverses i → slice_get members i ≡ Some f → k < length members → get_or row k 0 ≡ 0 → IsProductTable members (table ++ row ∷ []) (inverses ++ k ∷ []) (i + 1)
   table_more table inverses i k was at l e = record {
     count = length-append table (row ∷ []) ∙ ap (λ n. n + 1) was.count;
     rows = λ j g r p q.
@@ -191,12 +191,12 @@ module _ (members : List Operator) (group : IsGroup members) (f : Operator) (row
 -- ---- what the table says
 
 -- the code reads row n, which is i, at q, which is j
-pub product_read : (members : List Operator) (table : List (List ℕ)) (inverses : List ℕ) (i j n q : ℕ) (row : List ℕ) → IsTable members table inverses (length members) → i < length members → n ≡ i → q ≡ j → row ≡ get_or table n row → (f g : Operator) → slice_get members i ≡ Some f → slice_get members j ≡ Some g → slice_get members (get_or row q 0) ≡ Some (product UNIT f g)
+pub product_read : (members : List Operator) (table : List (List ℕ)) (inverses : List ℕ) (i j n q : ℕ) (row : List ℕ) → IsProductTable members table inverses (length members) → i < length members → n ≡ i → q ≡ j → row ≡ get_or table n row → (f g : Operator) → slice_get members i ≡ Some f → slice_get members j ≡ Some g → slice_get members (get_or row q 0) ≡ Some (product UNIT f g)
 product_read members table inverses i j n q row t l a b e f g p r =
     let there : slice_get table i ≡ Some row = slice_get_read table (length table) i row (λ _. length table) (omega (arith, t.count)) (e ∙ ap (λ k. get_or table k row) a) in
     subst (λ k. slice_get members (get_or row k 0) ≡ Some (product UNIT f g)) (sym b) (t.rows i f row p there j g r)
 
-pub inverse_read : (members : List Operator) (table : List (List ℕ)) (inverses : List ℕ) (i n v : ℕ) → IsTable members table inverses (length members) → i < length members → n ≡ i → v ≡ get_or inverses n v → v < length members
+pub inverse_read : (members : List Operator) (table : List (List ℕ)) (inverses : List ℕ) (i n v : ℕ) → IsProductTable members table inverses (length members) → i < length members → n ≡ i → v ≡ get_or inverses n v → v < length members
 inverse_read members table inverses i n v t l a e =
     let f = some_at members i l in
     let r = t.inverse i f.0 l f.1 in

@@ -14,15 +14,15 @@ abbrev pub IsTableRow : Operator → List Operator → List ℕ → Type 0
 IsTableRow f members row = (j : ℕ) (g : Operator) → slice_get members j ≡ Some g → slice_get members (slice_index row j) ≡ Some (product UNIT f g)
 
 -- each of the first i members has its row and the place of its inverse
-pub record IsTable (members : List Operator) (table : List (List ℕ)) (inverses : List ℕ) (i : ℕ) : Type 0 where
+pub record IsProductTable (members : List Operator) (table : List (List ℕ)) (inverses : List ℕ) (i : ℕ) : Type 0 where
   pub count : length table ≡ i
   pub rows : (k : ℕ) (f : Operator) (row : List ℕ) → slice_get members k ≡ Some f → slice_get table k ≡ Some row → IsTableRow f members row
   pub count_inverses : length inverses ≡ i
   pub inverse : (k : ℕ) (f : Operator) → k < i → slice_get members k ≡ Some f → (g : Operator) × (slice_get members (slice_index inverses k) ≡ Some g) × IsInverse UNIT f g
 
 -- a group with its table, where its runs end, and where those with the opposite matrices begin
-pub record IsTabled (members : List Operator) (table : List (List ℕ)) (inverses ends : List ℕ) (opposites : List (Option ℕ)) : Type 0 where
+pub record HasProductTable (members : List Operator) (table : List (List ℕ)) (inverses ends : List ℕ) (opposites : List (Option ℕ)) : Type 0 where
   pub group : IsGroup members
-  pub all : IsTable members table inverses (length members)
+  pub all : IsProductTable members table inverses (length members)
   pub runs : AreRunEnds members ends
   pub opposites_known : AreOpposites members opposites

@@ -46,10 +46,10 @@ impl Model for Group {
 
     ghost view = { λ a. a.members.items };
 
-    ghost use Rattle.group_closure.specs.Table.{IsTable, IsTabled};
+    ghost use Rattle.group_closure.specs.Table.{IsProductTable, HasProductTable};
 
     ghost invariant = { λ a.
-        IsTabled a.members.items a.products.items a.inverses.items a.ends a.opposites };
+        HasProductTable a.members.items a.products.items a.inverses.items a.ends a.opposites };
 }
 
 impl Group {

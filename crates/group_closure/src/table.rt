@@ -8,7 +8,7 @@ ghost use Rattle.group_closure.specs.Words.{AreDistinct};
 ghost use Rattle.group_closure.specs.GroupList.{IsGroup};
 ghost use Rattle.group_closure.specs.Order.{operator_cmp};
 ghost use Rattle.group_closure.specs.Making.{IsMade};
-ghost use Rattle.group_closure.specs.Table.{AreRanks, IsTableRow, IsTable};
+ghost use Rattle.group_closure.specs.Table.{AreRanks, IsTableRow, IsProductTable};
 
 use crate::MAX_OPERATORS;
 use crate::closing::{Making, Places, place_among};
@@ -24,7 +24,7 @@ pub fn fill(members: &[Op], making: &Making, table: &mut Vec<Places>, inverses: 
     requires empty_inverses { inverses.old.items ≡ [] }
     requires room { MAX_OPERATORS ≤ vec_capacity table.old }
     requires room_inverses { MAX_OPERATORS ≤ vec_capacity inverses.old }
-    ensures { IsTable members.now table.new.items inverses.new.items (length members.now) }
+    ensures { IsProductTable members.now table.new.items inverses.new.items (length members.now) }
 {
     let ranks = ranks_of(members, &making.members);
     for member in members {

@@ -19,7 +19,7 @@ use Rattle.space_groups.proofs.ScaledPoints.{moved-identity}
 use Rattle.space_groups.proofs.Means.{vec, vec-moved, same_on_points}
 use Rattle.affine_sets.specs.declared.TheConstants.{MAX_NEAR_SHIFT}
 use Rattle.affine_sets.specs.Subs.{AreElements, AreShiftsWithin}
-use Rattle.wyckoff_rows.specs.Steps.{IsEntry, IsNearAverage, AreKept}
+use Rattle.wyckoff_rows.specs.Steps.{IsEntry, IsAverageNearOrigin, AreKept}
 use Rattle.wyckoff_rows.specs.declared.entry.Entry.{Entry}
 use Rattle.wyckoff_rows.proofs.Meeting.{kept_more}
 
@@ -51,7 +51,7 @@ module _ (members : List Operator) (group : IsGroup members) where
       Small : Map → Type 0
       Small e = (k : Column) → IsShift UNIT e k → AreWithin MAX_NEAR_SHIFT k.x k.y k.z
 
-  pub trivial_near : (a : Block) → IsMean (length members) (identity_map ∷ []) a → IsNearAverage members a
+  pub trivial_near : (a : Block) → IsMean (length members) (identity_map ∷ []) a → IsAverageNearOrigin members a
   trivial_near a m = record { group = identity_map ∷ []; is_group = trivial_sub; mean = m; shifts = trivial_shifts }
 
   -- what fixes every point is the identity

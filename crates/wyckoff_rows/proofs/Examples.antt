@@ -31,7 +31,7 @@ use Rattle.wyckoff_rows.specs.declared.spans.Taken.{Taken}
 use Rattle.wyckoff_rows.specs.Shown.{row_cmp}
 use Rattle.wyckoff_rows.specs.Spanning.{AreFew, rest_of, taken_column, with_units}
 use Rattle.wyckoff_rows.specs.Spanning as spanning
-use Rattle.wyckoff_rows.specs.Steps.{IsNearAverage, AreKept, HasKeyOf, AreMet, HasGrown, IsGrownByAll, Extends, StandsFor, AreEnough, IsCovered, IsPlaceIn, IsInCoset, IsAlike, IsIn, IsPushed, AreTried, IsCandidate, IsVisited, last_set, IsKeptMore, IsAdded}
+use Rattle.wyckoff_rows.specs.Steps.{IsAverageNearOrigin, AreKept, HasKeyOf, AreMet, HasGrown, IsGrownByAll, Extends, StandsFor, AreEnough, IsCovered, IsPlaceIn, IsInCoset, IsAlike, IsIn, IsPushed, AreTried, IsCandidate, IsVisited, last_set, IsKeptMore, IsAdded}
 use Rattle.wyckoff_rows.specs.Table.{IsRowOfAverage, IsTableOf}
 use Rattle.wyckoff_rows.specs.Laws.{IsOnlyPlaceOf, IsPlaceOfBoth}
 
@@ -306,7 +306,7 @@ its_mean : IsMean 1 trivial alone.average
 unfolding block_scaled block_plus block_of scaled times ◌+ᵐ◌ ◌+ᶜ◌
 its_mean = refl
 
-near : IsNearAverage one alone.average
+near : IsAverageNearOrigin one alone.average
 unfolding modulo
 near = record { group = trivial; is_group = trivial_is_sub; mean = its_mean; shifts = without_shift MAX_NEAR_SHIFT identity_map refl refl }
 

@@ -21,7 +21,7 @@ use Rattle.affine_sets.specs.declared.TheConstants.{MAX_GROWN_SHIFT, MAX_NEAR_SH
 use Rattle.affine_sets.specs.Conditions.{IsAverage}
 use Rattle.wyckoff_rows.specs.Shown.{row_in, row_cmp}
 use Rattle.wyckoff_rows.specs.Table.{IsRowOfAverage, IsTableOf}
-use Rattle.wyckoff_rows.specs.Steps.{kept_in, row_shown, IsEntry, IsNearAverage, IsVisited}
+use Rattle.wyckoff_rows.specs.Steps.{kept_in, row_shown, IsEntry, IsAverageNearOrigin, IsVisited}
 use Rattle.wyckoff_rows.specs.declared.entry.Entry.{Entry}
 use Rattle.wyckoff_rows.specs.declared.parts.Row.{Row}
 use Rattle.wyckoff_rows.proofs.Lists.{at_contains, contains_at}
@@ -37,7 +37,7 @@ members_of_group members g = record {
 }
 
 -- an average of a group near the origin is one of a group whose shifts are in range
-pub near_average : (members : List Operator) (a : Block) → IsNearAverage members a → IsAverage members a
+pub near_average : (members : List Operator) (a : Block) → IsAverageNearOrigin members a → IsAverage members a
 near_average members a h = record {
   group = h.group;
   is_group = h.is_group;

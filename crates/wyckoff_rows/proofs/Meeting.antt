@@ -28,7 +28,7 @@ use Rattle.space_groups.proofs.CarriedLists.{key_carried}
 use Rattle.affine_sets.specs.Averages.{KeyOver}
 use Rattle.affine_sets.specs.Subs.{IsSubList, AreElements}
 use Rattle.affine_sets.specs.Conditions.{IsAverage}
-use Rattle.wyckoff_rows.specs.Steps.{IsEntry, IsNearAverage, AreKept, AreMet, HasKeyOf, IsAdded}
+use Rattle.wyckoff_rows.specs.Steps.{IsEntry, IsAverageNearOrigin, AreKept, AreMet, HasKeyOf, IsAdded}
 use Rattle.wyckoff_rows.specs.declared.entry.Entry.{Entry}
 use Rattle.wyckoff_rows.proofs.Standing.{closed_of_sub}
 use Rattle.affine_sets.proofs.Groups.{sub_of_list}
@@ -59,7 +59,7 @@ module _ (members : List Operator) (group : IsGroup members) where
 
   -- ---- what is kept of an average
 
-  module _ (set : List Map) (a : Block) (near : IsNearAverage members a) (full : IsFull UNIT members a set) (list : IsSubList set) where
+  module _ (set : List Map) (a : Block) (near : IsAverageNearOrigin members a) (full : IsFull UNIT members a set) (list : IsSubList set) where
     full_elements : AreElements members set
     full_elements = λ k d l. ((full.exactly (get_or set k d)).0 (Contains-get_or set k d l)).0
 

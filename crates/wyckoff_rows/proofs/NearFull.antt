@@ -26,7 +26,7 @@ use Rattle.space_groups.proofs.RowSizes.{row_size}
 use Rattle.space_groups.proofs.Rows.{some_members}
 use Rattle.affine_sets.specs.declared.TheConstants.{MAX_GROWN_SHIFT, MAX_NEAR_SHIFT}
 use Rattle.affine_sets.specs.Subs.{AreElements, AreShiftsWithin}
-use Rattle.wyckoff_rows.specs.Steps.{IsNearAverage}
+use Rattle.wyckoff_rows.specs.Steps.{IsAverageNearOrigin}
 use Rattle.wyckoff_rows.proofs.Standing.{closed_of_sub}
 
 -- a translation with small shifts
@@ -115,12 +115,12 @@ unfolding operator_of
 narrow_element members group e c = (All-contains IsNarrow members (operator_of UNIT e) group.narrow c).within_two
 
 -- the average of a group near the origin has a small translation
-pub near_translation : (members : List Operator) → IsGroup members → (a : Block) → IsNearAverage members a → AreWithin (length members * (UNIT * 51)) a.t.x a.t.y a.t.z
+pub near_translation : (members : List Operator) → IsGroup members → (a : Block) → IsAverageNearOrigin members a → AreWithin (length members * (UNIT * 51)) a.t.x a.t.y a.t.z
 near_translation members group a near =
     let each : (e : Map) → Contains near.group e → AreWithin (UNIT * 51) e.s.x e.s.y e.s.z = λ e c. let q = whole_part UNIT some_parts e.s in small_translation e q.0 q.1 (All-contains (λ (f : Map). (j : Column) → IsShift UNIT f j → AreWithin MAX_NEAR_SHIFT j.x j.y j.z) near.group e near.shifts c q.0 q.1) in
     mean_within (UNIT * 51) (length members) near.group a (omega (arith, near.is_group.identity.1)) near.mean (sum_within (UNIT * 51) near.group each)
 
-pub full_within : (members : List Operator) → IsGroup members → (a : Block) (set : List Map) → IsNearAverage members a → IsFull UNIT members a set → AreElements members set → AreShiftsWithin MAX_GROWN_SHIFT set
+pub full_within : (members : List Operator) → IsGroup members → (a : Block) (set : List Map) → IsAverageNearOrigin members a → IsFull UNIT members a set → AreElements members set → AreShiftsWithin MAX_GROWN_SHIFT set
 full_within members group a set near full elements i d l k s =
     let L : SpaceGroup = space_of members group in
     let v : Averaged L (length members) = record { some = some_members L; list = near.group; closed = closed_of_sub members group near.group near.is_group; average = a; is_mean = near.mean } in
@@ -129,7 +129,7 @@ full_within members group a set near full elements i d l k s =
     shift_within e a.t k (length members) (some_members L) (narrow_element members group e c.0) (near_translation members group a near) (c.1 (point_at (length members) (some_members L) a) (in_image (length members) (some_members L) a (number v) (idempotent_itself v))) s
 
 -- whatever the number of members
-pub near_limit : (members : List Operator) → IsGroup members → (a : Block) → IsNearAverage members a → AreWithin (MAX_OPERATORS * (UNIT * (MAX_NEAR_SHIFT + 1))) a.t.x a.t.y a.t.z
+pub near_limit : (members : List Operator) → IsGroup members → (a : Block) → IsAverageNearOrigin members a → AreWithin (MAX_OPERATORS * (UNIT * (MAX_NEAR_SHIFT + 1))) a.t.x a.t.y a.t.z
 near_limit members group a near =
     let t = near_translation members group a near in
     let l : length members * (UNIT * 51) ≤ MAX_OPERATORS * (UNIT * 51) = mul-le-mul group.within (le_refl (UNIT * 51)) in

@@ -26,7 +26,7 @@ abbrev pub kept_in : Entry → Kept
 kept_in t = record { set = t.set; average = t.average; key = t.key.key; mult = t.mult }
 
 -- a is the average of some group near the origin
-pub record IsNearAverage (members : List Operator) (a : Block) : Type 0 where
+pub record IsAverageNearOrigin (members : List Operator) (a : Block) : Type 0 where
   pub group : List Map
   pub is_group : IsSub UNIT members group
   pub mean : IsMean (length members) group a
@@ -36,7 +36,7 @@ pub record IsNearAverage (members : List Operator) (a : Block) : Type 0 where
 pub record IsEntry (members : List Operator) (t : Entry) : Type 0 where
   pub kept : IsKept UNIT members (kept_in t)
   pub over : t.key.over ≡ length members
-  pub near : IsNearAverage members t.average
+  pub near : IsAverageNearOrigin members t.average
   pub full : IsFull UNIT members t.average t.set
   pub shifts : AreShiftsWithin MAX_GROWN_SHIFT t.set
 

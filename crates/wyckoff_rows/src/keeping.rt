@@ -5,7 +5,7 @@ ghost use Rattle.exact_ops.specs.Elements.{map_in};
 ghost use Rattle.exact_ops.specs.declared.TheConstants.{UNIT};
 ghost use Rattle.space_groups.specs.Keys.{IsKey};
 ghost use Rattle.wyckoff_rows.specs.declared.entry.Entry.{Entry};
-ghost use Rattle.wyckoff_rows.specs.Steps.{IsEntry, IsNearAverage, AreKept, AreMet, HasGrown, HasKeyOf, IsCandidate, IsKeptMore, IsAdded};
+ghost use Rattle.wyckoff_rows.specs.Steps.{IsEntry, IsAverageNearOrigin, AreKept, AreMet, HasGrown, HasKeyOf, IsCandidate, IsKeptMore, IsAdded};
 
 use crate::entry::Entry;
 use affine_sets::parts::Key;
@@ -75,7 +75,7 @@ fn keep_average(
 ) -> Result<bool, NoMemory>
     requires kept { AreKept g.now kept.old.items }
     requires met { AreMet g.now kept.old.items met.old.items }
-    requires near { IsNearAverage g.now average }
+    requires near { IsAverageNearOrigin g.now average }
     requires over { average.n ≡ pos (length g.now) }
     ensures more { IfOk result (λ more. IsAdded more kept.old.items average kept.new.items) }
     ensures kept { OnOk result (AreKept g.now kept.new.items) }
@@ -125,7 +125,7 @@ fn has_key(kept: &[Entry], key: &Key) -> bool
 
 /// What is kept of an average.
 fn entry(alloc: Global, g: &Group, average: Special, key: Key) -> Result<Entry, NoMemory>
-    requires near { IsNearAverage g.now average }
+    requires near { IsAverageNearOrigin g.now average }
     requires key { IsKey UNIT g.now (length g.now) average key.key }
     requires over { key.over ≡ length g.now }
     ensures entry { IfOk result (λ t. IsEntry g.now t) }

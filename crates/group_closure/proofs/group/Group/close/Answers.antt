@@ -1,7 +1,7 @@
 use Rattle.std.proofs.Common.{length, sym, subst}
 use Rattle.group_closure.specs.GroupList.{IsGroup}
 use Rattle.group_closure.specs.Runs.{AreRunEnds, AreOpposites}
-use Rattle.group_closure.specs.Table.{IsTable}
+use Rattle.group_closure.specs.Table.{IsProductTable}
 use Rattle.group_closure.proofs.Lists.{group_of_sorted}
 use Rattle.group_closure.proofs.group.Group.close.Goals as goal
 
@@ -29,7 +29,7 @@ invariant_of-result c =
     let made = c.in-Ok-close.ensures in
     record {
       group = (group_of_sorted c.args.list.now _ _ _ made.narrow made.generated c.deref.ensures.value s.permutation s.first s.sorted).group;
-      all = subst (λ v. IsTable v c.fill.new.table.items c.fill.new.inverses.items (length v)) c.deref-2.ensures.value c.fill.ensures;
+      all = subst (λ v. IsProductTable v c.fill.new.table.items c.fill.new.inverses.items (length v)) c.deref-2.ensures.value c.fill.ensures;
       runs = subst (λ v. AreRunEnds v c.run_ends-ends.result) c.deref-3.ensures.value c.run_ends-ends.ensures;
       opposites_known = subst (λ v. AreOpposites v c.opposite_runs-opposites.result) c.deref-4.ensures.value c.opposite_runs-opposites.ensures;
     }
