@@ -1,5 +1,5 @@
 ghost use Rattle.std.specs.Prelude.{◌≡◌, ◌≤◌, ◌<◌, ◌+◌, ◌*◌, ◌↔◌, ℕ, IsTrue, IsSome, IfSome, unsigned_abs};
-ghost use Rattle.phase_rules.specs.Rows.{Row, row_of, neg_row};
+ghost use Rattle.phase_rules.specs.Rows.{Row, row_of};
 ghost use Rattle.reflections.specs.declared.TheConstants.{MAX_HALF, MAX_PLACES};
 ghost use Rattle.reflections.specs.Boxes.{IsInBox, IsBoxInRange, width, places, steps_down, place_of};
 
@@ -65,16 +65,6 @@ impl BoxSize {
     {
         let first = steps_down(self.h, row[0]) * width(self.k) + steps_down(self.k, row[1]);
         first * width(self.l) + steps_down(self.l, row[2])
-    }
-
-    /// The place of the opposite of the row at a place.
-    pub fn opposite(&self, place: usize) -> usize
-        requires { place < places self.now }
-        ensures value { (r : Row) → IsInBox self.now r → place_of self.now r ≡ place
-            → result ≡ place_of self.now (neg_row r) }
-        ensures within { result < places self.now }
-    {
-        self.places() - 1 - place
     }
 
     /// The index at a place.

@@ -119,7 +119,11 @@ fn tag(tags: &mut [bool], size: &BoxSize, row: &[i32; 3], pairs: Pairs)
     let at = size.place(row);
     tags[at] = true;
     match pairs {
-        Pairs::Friedel => tags[size.opposite(at)] = true,
+        // Its opposite stands as far from the end.
+        Pairs::Friedel => {
+            let back = tags.len() - 1 - at;
+            tags[back] = true;
+        }
         Pairs::Apart => {}
     }
 }
