@@ -1,5 +1,5 @@
 -- What is gathered on a page, text behind text, and handed over.
-use Rattle.std.proofs.Common.{◌≡◌, ℕ, List, [], ◌++◌, Option, Result, Ok, Err, sym, ap, subst, ◌∙◌, append_assoc}
+use Rattle.std.proofs.Common.{◌≡◌, ℕ, List, [], ◌++◌, Option, Result, Ok, Err, refl, sym, ap, subst, ◌∙◌, append_assoc}
 use Rattle.std.proofs.lemmas.List.{append-nil}
 use Rattle.std.specs.Prelude.{OnOk, OnErr}
 use Rattle.std.specs.Io.KnownBytes.{Appends}
@@ -7,7 +7,7 @@ use Rattle.std.proofs.KnownBytes.{Appends-nil, Appends-trans}
 use Rattle.sg_io.specs.declared.sink.SinkStop.{SinkStop}
 use Rattle.sg_io.specs.Bytes.{AppendsPrefix}
 use Rattle.sg_io.specs.Streams.{SeenSink}
-use Rattle.page_print.specs.Lines.{IsNothing, AddsLine}
+use Rattle.page_print.specs.Lines.{IsNothing, AddsSuch, AddsLine}
 use Rattle.page_print.specs.Printing.{Counts, Prints, Gathers, GathersText}
 use Rattle.page_print.proofs.Counting.{SameCounts, none_counted, counted_ok, same_when_ok, same_then, same_then_same}
 
@@ -28,6 +28,12 @@ nothing_before Rest text rest e r = subst (λ (t : List ℕ). Rest (t ++ rest)) 
 
 module _ {K : Type 0} (sink : SeenSink K) where
   open sink use {held}
+
+  -- all of a text was handed over, or a prefix of it
+  pub handed_over : (old new : K) (page : List ℕ) (result : Result (Unit {0}) SinkStop) → OnOk result (Appends (held old) (held new) page) → OnErr result (AppendsPrefix (held old) (held new) page) → Counts sink old new result
+      → Prints sink (λ text. text ≡ page) old new result
+  handed_over old new page (Ok done) ok err counts = record { ok = (page, refl, ok); err = tt; counts = counts }
+  handed_over old new page (Err stop) ok err counts = record { ok = tt; err = (page, refl, err); counts = counts }
 
   -- a piece is added to the page
   pub pushed : (old : K) (page now text : List ℕ) → now ≡ page ++ text → Gathers sink old old page now text
@@ -116,19 +122,24 @@ module _ {K : Type 0} (sink : SeenSink K) where
     }
 
     -- all that was gathered from an empty page on is handed over
-    pub printed : (mid new : K) (more : List ℕ) (result : Result (Unit {0}) SinkStop) → GathersText sink First old mid page more (Ok tt)
-        → OnOk result (Appends (held mid) (held new) more) → OnErr result (AppendsPrefix (held mid) (held new) more) → Counts sink mid new result → Prints sink First old new result
-    printed mid new more (Ok done) g ok err counts =
+    pub printed : (mid new : K) (more : List ℕ) (result : Result (Unit {0}) SinkStop) → GathersText sink First old mid page more (Ok tt) → Prints sink (λ text. text ≡ more) mid new result → Prints sink First old new result
+    printed mid new more (Ok done) g put =
         let a = from_empty mid more g.ok.0 g.ok.2 in
+        let last = subst (Appends (held mid) (held new)) put.ok.1 put.ok.2 in
         record {
-          ok = (g.ok.0, g.ok.1, subst (Appends (held old) (held new)) a.2 (Appends-trans (held old) (held mid) (held new) a.0 more a.1 ok));
+          ok = (g.ok.0, g.ok.1, subst (Appends (held old) (held new)) a.2 (Appends-trans (held old) (held mid) (held new) a.0 more a.1 last));
           err = tt;
-          counts = same_then sink old mid new (Ok tt) (same_when_ok sink old mid g.counts) counts;
+          counts = same_then sink old mid new (Ok tt) (same_when_ok sink old mid g.counts) put.counts;
         }
-    printed mid new more (Err stop) g ok err counts =
+    printed mid new more (Err stop) g put =
         let a = from_empty mid more g.ok.0 g.ok.2 in
+        let front = subst (AppendsPrefix (held mid) (held new)) put.err.1 put.err.2 in
         record {
           ok = tt;
-          err = (g.ok.0, g.ok.1, subst (AppendsPrefix (held old) (held new)) a.2 (prefix_behind (held old) (held mid) (held new) a.0 more a.1 err));
-          counts = same_then sink old mid new (Err stop) (same_when_ok sink old mid g.counts) counts;
+          err = (g.ok.0, g.ok.1, subst (AppendsPrefix (held old) (held new)) a.2 (prefix_behind (held old) (held mid) (held new) a.0 more a.1 front));
+          counts = same_then sink old mid new (Err stop) (same_when_ok sink old mid g.counts) put.counts;
         }
+
+    -- a text that was put on an empty page, which is handed over
+    pub piece_printed : (new : K) (more : List ℕ) (result : Result (Unit {0}) SinkStop) → AddsSuch First page more → Prints sink (λ text. text ≡ more) old new result → Prints sink First old new result
+    piece_printed new more result a = printed old new more result (record { ok = (a.0, a.1, pushed old page more a.0 a.2); err = tt; counts = counted_ok sink old old (none_counted sink old) })

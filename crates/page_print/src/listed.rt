@@ -1,10 +1,9 @@
-ghost use Rattle.std.specs.Prelude.{◌≡◌, ◌+◌, ◌-◌, ◌≤◌, ◌<◌, ℕ, List, [], length};
+ghost use Rattle.std.specs.Prelude.{◌≡◌, ◌+◌, ◌≤◌, ◌<◌, ℕ, List, [], length};
 ghost use Rattle.page_print.specs.declared.page.TheConstants.{PAGE_ROOM};
 ghost use Rattle.page_print.specs.Lines.{AddsLine};
 ghost use Rattle.page_print.specs.Printing.{Prints, GathersText};
 
-use crate::lines::{Lines, print_lines, put_lines};
-use crate::page::Page;
+use crate::page::{Page, make_room, put_page};
 use sg_io::{Sink, SinkStop};
 
 /// Elements that are asked by their places, each with a line.
@@ -37,37 +36,8 @@ pub trait Listed {
     ghost fits: { longest ≤ PAGE_ROOM };
 }
 
-/// The lines of the elements from one place on.
-#[derive(Drop)]
-struct FromPlace<'a, L: Listed> {
-    listed: &'a L,
-    at: u16,
-}
-
-impl<L: Listed> Lines for FromPlace<'_, L> {
-    ghost texts = { λ lines text. L.texts lines.listed.now lines.at text };
-
-    ghost left = { λ lines. L.count lines.listed.now - lines.at };
-
-    ghost longest = { L.longest };
-
-    ghost fits = { L.fits };
-
-    fn longest_line(&self) -> usize {
-        self.listed.longest_line()
-    }
-
-    fn next(&mut self, page: &mut Page) -> bool {
-        if self.at >= self.listed.len() {
-            return false;
-        }
-        self.listed.push_line(self.at, page);
-        self.at += 1;
-        true
-    }
-}
-
-/// Adds the lines of all elements to the page, as `put_lines` does.
+/// Adds the lines of all elements to the page, which has room for the longest, and hands it over each time that the next one may
+/// not fit. It takes no memory. After an Err a prefix of what stood on the page and of the lines is written.
 pub fn put_listed<L: Listed, K: Sink>(
     listed: &L,
     page: &mut Page,
@@ -76,12 +46,18 @@ pub fn put_listed<L: Listed, K: Sink>(
     requires { length page.old + L.longest ≤ PAGE_ROOM }
     ensures { GathersText K.seen (L.texts listed.now 0) sink.old sink.new page.old page.new result }
 {
-    put_lines(&mut FromPlace { listed, at: 0 }, page, sink)
+    for at in 0..listed.len() {
+        listed.push_line(at, page);
+        make_room(listed.longest_line(), page, sink)?;
+    }
+    Ok(())
 }
 
-/// Writes the lines of all elements, as `print_lines` does.
+/// Writes the lines of all elements, page by page. It takes no memory. After an Err a prefix of them is written.
 pub fn print_listed<L: Listed, K: Sink>(listed: &L, sink: &mut K) -> Result<(), SinkStop>
     ensures { Prints K.seen (L.texts listed.now 0) sink.old sink.new result }
 {
-    print_lines(&mut FromPlace { listed, at: 0 }, sink)
+    let mut page = Page::new();
+    put_listed(listed, &mut page, sink)?;
+    put_page(&page, sink)
 }

@@ -1,6 +1,6 @@
-ghost use Rattle.std.specs.Prelude.{◌+◌, ◌≤◌, length, OnOk};
+ghost use Rattle.std.specs.Prelude.{◌≡◌, ◌+◌, ◌≤◌, length, OnOk};
 ghost use Rattle.page_print.specs.Lines.{IsNothing};
-ghost use Rattle.page_print.specs.Printing.{GathersText};
+ghost use Rattle.page_print.specs.Printing.{Prints, GathersText};
 
 use sg_io::{Sink, SinkStop, put_all};
 use triplet_text::InPlace;
@@ -22,4 +22,11 @@ pub fn make_room<K: Sink>(room: usize, page: &mut Page, sink: &mut K) -> Result<
         page.clear();
     }
     Ok(())
+}
+
+/// Hands the page over. After an Err a prefix of it is written.
+pub fn put_page<K: Sink>(page: &Page, sink: &mut K) -> Result<(), SinkStop>
+    ensures { Prints K.seen (λ text. text ≡ page.now) sink.old sink.new result }
+{
+    put_all(sink, page.bytes())
 }

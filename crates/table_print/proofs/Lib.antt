@@ -2,6 +2,7 @@ pub mod SiteTexts
 pub mod SitePages
 pub mod TypeLines
 pub mod ClassTexts
+pub mod WalkPages
 pub mod ClassPages
 pub mod GridTexts
 pub mod GridPages

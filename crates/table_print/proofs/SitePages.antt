@@ -1,21 +1,16 @@
 -- The text of a site, gathered part by part.
 use Rattle.std.proofs.Common.{◌≡◌, ℕ, List, [], ◌++◌, Result, Ok, Err, refl}
-use Rattle.std.specs.Prelude.{OnOk, OnErr}
-use Rattle.std.specs.Io.KnownBytes.{Appends}
 use Rattle.lattice_algebra.specs.Map.{Map}
 use Rattle.lattice_algebra.specs.Point.{Point}
 use Rattle.sg_io.specs.declared.sink.SinkStop.{SinkStop}
-use Rattle.sg_io.specs.Bytes.{AppendsPrefix}
 use Rattle.sg_io.specs.Streams.{SeenSink}
 use Rattle.page_print.specs.Lines.{AreLines, IsNothing}
-use Rattle.page_print.specs.Printing.{Counts, Prints, GathersText}
+use Rattle.page_print.specs.Printing.{Prints, GathersText}
 use Rattle.page_print.proofs.Gathering.{IsUnderWay, begun, one_piece, one_part, stopped, gathered_all, nothing_before, printed, prints_stopped}
 use Rattle.table_print.specs.Sites.{IsElementLine, IsPointLine, IsSiteText}
 use Rattle.table_print.proofs.SiteTexts as texts
 
 module _ {K : Type 0} (sink : SeenSink K) (site : List Map) (orbit : List Point) (old : K) (page : List ℕ) (empty : page ≡ []) where
-  open sink use {held}
-
   abbrev Whole : List ℕ → Type 0
   Whole = IsSiteText site orbit
 
@@ -57,7 +52,7 @@ module _ {K : Type 0} (sink : SeenSink K) (site : List Map) (orbit : List Point)
 
         -- the points are gathered, and the last page is handed over
         pub site_printed : (last new : K) (fourth : List ℕ) (result : Result (Unit {0}) SinkStop) → GathersText sink Points late last third fourth (Ok tt)
-            → OnOk result (Appends (held last) (held new) fourth) → OnErr result (AppendsPrefix (held last) (held new) fourth) → Counts sink last new result → Prints sink Whole old new result
-        site_printed last new fourth result g ok err counted =
+            → Prints sink (λ text. text ≡ fourth) last new result → Prints sink Whole old new result
+        site_printed last new fourth result g put =
             let points_put = one_part sink Whole old page Points late third room_made IsNothing Points last fourth (texts.points_before site orbit) g in
-            printed sink Whole old page empty last new fourth result (gathered_all sink Whole old page IsNothing last fourth points_put refl) ok err counted
+            printed sink Whole old page empty last new fourth result (gathered_all sink Whole old page IsNothing last fourth points_put refl) put

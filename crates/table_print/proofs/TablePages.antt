@@ -1,16 +1,13 @@
 -- Printing a table, part by part.
 use Rattle.std.proofs.Common.{◌≡◌, ℕ, List, [], ◌++◌, Result, Ok, Err, refl, sym, ◌∙◌}
-use Rattle.std.specs.Prelude.{OnOk, OnErr}
-use Rattle.std.specs.Io.KnownBytes.{Appends}
 use Rattle.lattice_algebra.specs.Operator.{Operator}
 use Rattle.group_closure.specs.GroupList.{IsGroup}
 use Rattle.space_groups.specs.Rows.{Row}
 use Rattle.phase_rules.specs.declared.pairs.Pairs.{Pairs}
 use Rattle.reflections.specs.Boxes.{Box}
 use Rattle.sg_io.specs.declared.sink.SinkStop.{SinkStop}
-use Rattle.sg_io.specs.Bytes.{AppendsPrefix}
 use Rattle.sg_io.specs.Streams.{SeenSink}
-use Rattle.page_print.specs.Printing.{Counts, Prints, GathersText}
+use Rattle.page_print.specs.Printing.{Prints, GathersText}
 use Rattle.page_print.proofs.Gathering.{IsUnderWay, begun, printed, prints_stopped}
 use Rattle.page_print.proofs.LineTexts.{some_lines, one_text}
 use Rattle.table_print.specs.Operators.{IsOperatorLine}
@@ -55,8 +52,6 @@ module _ (pairs : Pairs) (members : List Operator) (group : IsGroup members) (ro
       (one_then (one_under (one_text IsTypeLine one_type_line members)) (one_then (one_under (λ s t p q. p ∙ sym q)) (one_under (one_box_text pairs members group box))))
 
   module _ {K : Type 0} (sink : SeenSink K) (old : K) (page : List ℕ) (empty : page ≡ []) where
-    open sink use {held}
-
     all_to_come : IsUnderWay sink Whole old page Whole old page
     all_to_come = begun sink Whole old page
 
@@ -85,6 +80,5 @@ module _ (pairs : Pairs) (members : List Operator) (group : IsGroup members) (ro
           stopped_in_classes new now stop g = prints_stopped sink Whole old page empty new now stop (last_gathered sink Whole old page Classes later new left now (Err stop) rows_put g)
 
           -- the last page is handed over
-          pub table_printed : (last new : K) (now : List ℕ) (result : Result (Unit {0}) SinkStop) → GathersText sink Classes later last left now (Ok tt)
-              → OnOk result (Appends (held last) (held new) now) → OnErr result (AppendsPrefix (held last) (held new) now) → Counts sink last new result → Prints sink Whole old new result
-          table_printed last new now result g ok err counted = printed sink Whole old page empty last new now result (last_gathered sink Whole old page Classes later last left now (Ok tt) rows_put g) ok err counted
+          pub table_printed : (last new : K) (now : List ℕ) (result : Result (Unit {0}) SinkStop) → GathersText sink Classes later last left now (Ok tt) → Prints sink (λ text. text ≡ now) last new result → Prints sink Whole old new result
+          table_printed last new now result g put = printed sink Whole old page empty last new now result (last_gathered sink Whole old page Classes later last left now (Ok tt) rows_put g) put

@@ -9,11 +9,11 @@ ghost use Rattle.table_print.specs.declared.classes.TheConstants.{MARK_TEXT, ROW
 
 use group_closure::Group;
 use itoa::Buffer;
-use page_print::{Page, make_room};
+use page_print::{Page, make_room, put_page};
 use phase_rules::parts::Mark;
 use phase_rules::{Index, Pairs, class_size, fixers, mark};
 use reflections::{ClassLine, ClassList};
-use sg_io::{Sink, SinkStop, put_all};
+use sg_io::{Sink, SinkStop};
 
 /// The most bytes that a mark has: that of a phase, a word, a blank and a number of at most three digits.
 const MARK_TEXT: usize = 9;
@@ -42,7 +42,7 @@ pub fn print_index<K: Sink>(
     };
     let mut page = Page::new();
     push_class(&line, &mut page);
-    put_all(sink, page.bytes())
+    put_page(&page, sink)
 }
 
 /// Writes the lines of the command `refl`: one for each class, in the order of the class list. The walk is one of the group from
@@ -62,7 +62,7 @@ pub fn print_classes<K: Sink>(
 {
     let mut page = Page::new();
     put_classes(group, list, &mut page, sink)?;
-    put_all(sink, page.bytes())
+    put_page(&page, sink)
 }
 
 /// Adds the lines of all classes to the page, which has room for one, and hands it over each time that the next one may not fit.

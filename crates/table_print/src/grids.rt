@@ -10,8 +10,8 @@ ghost use Rattle.table_print.specs.declared.grids.TheConstants.{ORBIT_LINE};
 use grid_tags::{GridLine, GridOrbits};
 use group_closure::Group;
 use itoa::Buffer;
-use page_print::{Page, make_room};
-use sg_io::{Sink, SinkStop, put_all};
+use page_print::{Page, make_room, put_page};
+use sg_io::{Sink, SinkStop};
 
 /// The most bytes that a line has: four numbers of at most five digits, behind each a blank or the line feed.
 const ORBIT_LINE: usize = 4 * (5 + 1);
@@ -35,7 +35,7 @@ pub fn print_orbits<K: Sink>(
         push_orbit(&line, &mut page);
         make_room(ORBIT_LINE, &mut page, sink)?;
     }
-    put_all(sink, page.bytes())
+    put_page(&page, sink)
 }
 
 fn push_orbit(line: &GridLine, page: &mut Page)

@@ -11,8 +11,8 @@ ghost use Rattle.table_print.specs.declared.rows.TheConstants.{SHOWN_ROW, ROW_LI
 use affine_sets::parts::Key;
 use group_closure::Group;
 use itoa::Buffer;
-use page_print::{Page, make_room};
-use sg_io::{Sink, SinkStop, put_all};
+use page_print::{Page, make_room, put_page};
+use sg_io::{Sink, SinkStop};
 use triplet_text::{TEXT_ROOM, Text, print_affine};
 use wyckoff_rows::parts::Rows;
 
@@ -31,7 +31,7 @@ pub fn print_rows<K: Sink>(group: &Group, rows: &Rows, sink: &mut K) -> Result<(
 {
     let mut page = Page::new();
     put_rows(group, rows, &mut page, sink)?;
-    put_all(sink, page.bytes())
+    put_page(&page, sink)
 }
 
 /// Writes the line of the row at place k, counted from 0. It takes no memory. After an Err a prefix of the line is written.
@@ -47,7 +47,7 @@ pub fn print_row<K: Sink>(
 {
     let mut page = Page::new();
     push_line(group, rows, k, &mut page);
-    put_all(sink, page.bytes())
+    put_page(&page, sink)
 }
 
 /// Adds the lines of all rows to the page, and hands it over each time that the next one may not fit.

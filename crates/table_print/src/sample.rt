@@ -11,8 +11,8 @@ use crate::parts::counted;
 use crate::rows::{SHOWN_ROW, push_row};
 use group_closure::Group;
 use itoa::Buffer;
-use page_print::{Page, make_room};
-use sg_io::{Sink, SinkStop, put_all};
+use page_print::{Page, make_room, put_page};
+use sg_io::{Sink, SinkStop};
 use wyckoff_rows::parts::Rows;
 
 /// The most bytes that the heading has: two words, the number of the group, and a number of operators with its line feed.
@@ -38,7 +38,7 @@ pub fn print_sample<K: Sink>(
     let mut page = Page::new();
     push_heading(number, group, &mut page);
     put_counted(group, rows, counts, &mut page, sink)?;
-    put_all(sink, page.bytes())
+    put_page(&page, sink)
 }
 
 fn push_heading(number: u8, group: &Group, page: &mut Page)

@@ -11,8 +11,8 @@ ghost use Rattle.table_print.specs.declared.sites.TheConstants.{COUNTS_TEXT, ELE
 use exact_ops::{Move, Point};
 use itoa::Buffer;
 use orbit_map::parts::Orbit;
-use page_print::{Listed, Page, make_room, put_listed};
-use sg_io::{Sink, SinkStop, put_all};
+use page_print::{Listed, Page, make_room, put_listed, put_page};
+use sg_io::{Sink, SinkStop};
 use site_symmetry::parts::Site;
 use triplet_text::{TEXT_ROOM, print_frac, print_move};
 
@@ -35,7 +35,7 @@ pub fn print_site<K: Sink>(site: &Site, orbit: &Orbit, sink: &mut K) -> Result<(
     put_listed(&ElementLines { site }, &mut page, sink)?;
     make_room(POINT_LINE, &mut page, sink)?;
     put_listed(&PointLines { orbit }, &mut page, sink)?;
-    put_all(sink, page.bytes())
+    put_page(&page, sink)
 }
 
 #[derive(Drop)]

@@ -14,9 +14,9 @@ use crate::parts::{counted, put_heading};
 use crate::rows::put_rows;
 use crate::types::{TYPE_LINE, TypeLines};
 use group_closure::Group;
-use page_print::{Page, put_listed};
+use page_print::{Page, put_listed, put_page};
 use reflections::ClassList;
-use sg_io::{Sink, SinkStop, put_all};
+use sg_io::{Sink, SinkStop};
 use wyckoff_rows::parts::Rows;
 
 /// Writes the text of the command `table`: the lines of `ops`, `types`, `wyckoff` and `refl`, each under a heading. The walk is one
@@ -41,7 +41,7 @@ pub fn print_table<K: Sink>(
     put_types(group, &mut page, sink)?;
     put_row_part(group, rows, &mut page, sink)?;
     put_class_part(group, list, &mut page, sink)?;
-    put_all(sink, page.bytes())
+    put_page(&page, sink)
 }
 
 fn put_operators<K: Sink>(group: &Group, page: &mut Page, sink: &mut K) -> Result<(), SinkStop>

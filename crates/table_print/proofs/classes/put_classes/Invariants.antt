@@ -2,12 +2,13 @@ use Rattle.std.proofs.Common.{◌-◌, ◌+◌, ◌≤◌, length}
 use Rattle.page_print.specs.declared.page.TheConstants.{PAGE_ROOM}
 use Rattle.reflections.specs.Boxes.{places}
 use Rattle.table_print.specs.declared.classes.TheConstants.{CLASS_LINE}
-use Rattle.table_print.proofs.ClassPages.{IsPrinting}
+use Rattle.table_print.proofs.WalkPages.{IsPrinting}
+use Rattle.table_print.proofs.ClassPages.{class_listing}
 use Rattle.table_print.proofs.classes.put_classes.Given as goal
 
 abbrev pub invariant-loop-line : goal.invariant-loop-line
 invariant-loop-line g l = record {
-  printing : IsPrinting l.group l.fn.list g.K.Sink.seen l.fn.sink l.fn.page l.list l.sink l.page;
+  printing : IsPrinting (class_listing l.group l.fn.list) g.K.Sink.seen l.fn.sink l.fn.page l.list l.sink l.page;
   room : length l.page + CLASS_LINE ≤ PAGE_ROOM;
 }
 

@@ -16,12 +16,8 @@ returns-in_err-put_counted g c =
 
 pub returns : goal.returns
 returns g c =
-    let put = c.put_all.ensures in
-    let is = c.bytes.ensures.text in
     let members = c.args.group.now in
     let rows = c.args.rows.now in
     let counts = c.args.counts.now in
-    printed g.K.Sink.seen (IsSampleText c.args.number members rows counts) c.args.sink.now c.new-page.result c.new-page.ensures c.put_counted.new.sink c.put_all.new.sink c.put_counted.new.page c.put_all.result
-    (after_heading g.K.Sink.seen (sample_heading c.args.number (length members)) (AreCountedLines members rows counts) c.args.sink.now c.put_counted.new.sink c.new-page.result c.push_heading.new.page c.put_counted.new.page (Ok tt) c.push_heading.ensures c.in_ok-put_counted.ensures)
-    (rw is at put.ok) (rw is at put.err)
-    (record { faults_later = put.faults_later; wants_later = put.wants_later; failed = put.failed; no_memory = put.no_memory; unfailed = put.unfailed; unwanted = put.unwanted })
+    printed g.K.Sink.seen (IsSampleText c.args.number members rows counts) c.args.sink.now c.new-page.result c.new-page.ensures c.put_counted.new.sink c.put_page.new.sink c.put_counted.new.page c.put_page.result
+    (after_heading g.K.Sink.seen (sample_heading c.args.number (length members)) (AreCountedLines members rows counts) c.args.sink.now c.put_counted.new.sink c.new-page.result c.push_heading.new.page c.put_counted.new.page (Ok tt) c.push_heading.ensures c.in_ok-put_counted.ensures) c.put_page.ensures

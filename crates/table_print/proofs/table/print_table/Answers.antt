@@ -32,10 +32,6 @@ returns-in_err-put_class_part-clause-text g c =
 
 pub returns-clause-text : goal.returns-clause-text
 returns-clause-text g c =
-    let put = c.put_all.ensures in
-    let is = c.bytes.ensures.text in
     let list = c.args.list.now in
     table_printed list.pairs c.args.group.now c.requires.unused.group c.args.rows.now list.size g.K.Sink.seen c.args.sink.now c.new-page.result c.new-page.ensures c.put_operators.new.sink c.put_operators.new.page c.in_ok-put_operators.ensures
-    c.put_types.new.sink c.put_types.new.page c.in_ok-put_types.ensures c.put_row_part.new.sink c.put_row_part.new.page c.in_ok-put_row_part.ensures c.put_class_part.new.sink c.put_all.new.sink c.put_class_part.new.page c.put_all.result c.in_ok-put_class_part.ensures.gathers
-    (rw is at put.ok) (rw is at put.err)
-    (record { faults_later = put.faults_later; wants_later = put.wants_later; failed = put.failed; no_memory = put.no_memory; unfailed = put.unfailed; unwanted = put.unwanted })
+    c.put_types.new.sink c.put_types.new.page c.in_ok-put_types.ensures c.put_row_part.new.sink c.put_row_part.new.page c.in_ok-put_row_part.ensures c.put_class_part.new.sink c.put_page.new.sink c.put_class_part.new.page c.put_page.result c.in_ok-put_class_part.ensures.gathers c.put_page.ensures
