@@ -9,7 +9,7 @@ use Rattle.lattice_algebra.specs.Matrix.{Matrix, Column, ◌·◌, ◌·ᶜ◌, 
 use Rattle.lattice_algebra.specs.Operator.{Operator, AreWithin, HasEntriesWithin}
 use Rattle.lattice_algebra.specs.Map.{Map, operator_of}
 use Rattle.lattice_algebra.proofs.Equality.{operator_eq, contains-is}
-use Rattle.lattice_algebra.proofs.Numbers.{zero_or_other, some_size}
+use Rattle.lattice_algebra.proofs.Numbers.{zero_or_other, some_size, entries_or_not}
 use Rattle.lattice_algebra.proofs.Quotients.{rem_of_multiple, multiple_of_quotient}
 use Rattle.lattice_algebra.proofs.Columns.{cancel_times}
 use Rattle.exact_ops.specs.declared.TheConstants.{UNIT}
@@ -32,6 +32,9 @@ both (inl a) (inl b) = inl (a, b)
 both (inr n) b = inr (λ p. n p.0)
 both (inl a) (inr n) = inr (λ p. n p.1)
 
+pub at_most : (n limit : ℕ) → OrNot (n ≤ limit)
+at_most n limit = ⊎_elim (λ more. inr (λ few. omega (arith, more, few))) inl (cases_lt limit n)
+
 -- what says the same is decided too
 pub likewise : {A B : Type 0} → OrNot A → (A → B) → (B → A) → OrNot B
 likewise (inl a) f g = inl (f a)
@@ -44,19 +47,6 @@ all_or_not P which (x ∷ xs) =
       All-contains P (x ∷ xs) x a (Contains-here x xs),
       All-weaker (Contains xs) P (λ y m. All-contains P (x ∷ xs) y a (Contains-later y x xs m)) xs (All-contains_itself xs),
     ))
-
--- ---- entries
-
-at_most : (n : ℕ) (a : ℤ) → OrNot (unsigned_abs a ≤ n)
-at_most n a = ⊎_elim (λ more. inr (λ few. omega (arith, more, few))) inl (cases_lt n (unsigned_abs a))
-
-within_or_not : (n : ℕ) (a b c : ℤ) → OrNot (AreWithin n a b c)
-within_or_not n a b c = likewise (both (both (at_most n a) (at_most n b)) (at_most n c)) (λ p. record { first = p.0.0; second = p.0.1; third = p.1 }) (λ w. ((w.first, w.second), w.third))
-
-pub entries_or_not : (n : ℕ) (m : Matrix) → OrNot (HasEntriesWithin n m)
-entries_or_not n m =
-    likewise (both (both (within_or_not n m.xx m.xy m.xz) (within_or_not n m.yx m.yy m.yz)) (within_or_not n m.zx m.zy m.zz))
-    (λ p. record { x = p.0.0; y = p.0.1; z = p.1 }) (λ w. ((w.x, w.y), w.z))
 
 -- ---- quotients
 

@@ -1,5 +1,4 @@
 ghost use Rattle.std.specs.Prelude.{◌≡◌, ◌<◌, ◌↔◌, ◌*ℤ◌, pos, IsTrue, IsSome, IfSome, IfOk, Some, slice_get};
-ghost use Rattle.std.specs.Int.{int_rem_euclid};
 ghost use Rattle.lattice_algebra.specs.Matrix.{Column, times, identity, ◌·ᶜ◌};
 ghost use Rattle.lattice_algebra.specs.Map.{operator_of};
 ghost use Rattle.exact_ops.specs.declared.TheConstants.{UNIT as PARTS};
@@ -9,7 +8,8 @@ ghost use Rattle.basis_change.specs.Wide.{wide_matrix, wide_column};
 ghost use Rattle.basis_change.specs.Frames.{IsFrame, change_in, cells, generators, AreChanged};
 
 use crate::frame::Frame;
-use crate::generator::{along, generator_at};
+use crate::generator::{along, generator_at, generator_count};
+use crate::quotient::part;
 use crate::wide::WideVector;
 use exact_ops::{NoMemory, Op, OpList, Raw, Rotation, UNIT};
 use group_closure::Group;
@@ -77,19 +77,12 @@ fn translation_by(s: &WideVector) -> Option<Op>
     }
 }
 
-/// A number modulo the cell.
-pub fn part(n: i64) -> i32
-    ensures { result ≡ int_rem_euclid n (pos PARTS) }
-{
-    n.rem_euclid(i64::from(UNIT)) as i32
-}
-
 /// Whether the changed matrix of each element is whole.
 pub fn are_whole(group: &Group, frame: &Frame) -> bool
     requires { IsFrame frame.now }
     ensures { IsTrue result ↔ AreWhole PARTS group.now (change_in frame.now) }
 {
-    for i in 0..group.len() + 3 {
+    for i in 0..generator_count(group) {
         let g = generator_at(group, i);
         if frame.rotation(&g.w).is_none() {
             return false;
@@ -103,7 +96,7 @@ pub fn are_narrow(group: &Group, frame: &Frame) -> bool
     requires { IsFrame frame.now }
     ensures { IsTrue result ↔ AreNarrow PARTS group.now (change_in frame.now) }
 {
-    for i in 0..group.len() + 3 {
+    for i in 0..generator_count(group) {
         let g = generator_at(group, i);
         if !frame.stays_narrow(&g.w) {
             return false;
@@ -118,7 +111,7 @@ pub fn are_in_parts(group: &Group, frame: &Frame) -> bool
     requires narrow { AreNarrow PARTS group.now (change_in frame.now) }
     ensures { IsTrue result ↔ AreInParts PARTS group.now (change_in frame.now) }
 {
-    for i in 0..group.len() + 3 {
+    for i in 0..generator_count(group) {
         let g = generator_at(group, i);
         if frame.changed(&g).is_none() {
             return false;
@@ -135,7 +128,7 @@ pub fn changed_list(alloc: Global, group: &Group, frame: &Frame) -> Result<OpLis
     ensures { IfOk result (AreChanged group.now (change_in frame.now) (generators group.now)) }
 {
     let mut list = OpList::new(alloc);
-    for i in 0..group.len() + 3 {
+    for i in 0..generator_count(group) {
         let g = generator_at(group, i);
         let raw = frame.changed(&g).unwrap();
         let Ok(()) = list.push(&raw) else {

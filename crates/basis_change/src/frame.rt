@@ -12,8 +12,9 @@ ghost use Rattle.basis_change.specs.Wide.{wide_matrix, wide_column, WIDE};
 ghost use Rattle.basis_change.specs.Frames.{IsFrame, change_in, map_in, HasWholeMatrix, HasNarrowMatrix, HasMap};
 
 use crate::generator::Generator;
+use crate::quotient::part;
 use crate::wide::{WideMatrix, WideVector};
-use exact_ops::{Raw, Rotation, UNIT, Vector};
+use exact_ops::{Raw, Rotation, Vector};
 
 /// A change of coordinates x -> (W x) / d + t / UNIT with its inverse: V over k is that of W.
 #[derive(Clone, Copy, PartialEq, Eq, Debug, Drop)]
@@ -146,5 +147,5 @@ fn place(moved: i64, origin: i64, back: i64) -> i32
     requires back { unsigned_abs back ≤ 3 * (WIDE * WIDE) }
     ensures { result ≡ int_rem_euclid (moved +ℤ origin +ℤ neg_ℤ back) (pos PARTS) }
 {
-    (moved + origin - back).rem_euclid(i64::from(UNIT)) as i32
+    part(moved + origin - back)
 }

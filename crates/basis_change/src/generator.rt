@@ -1,8 +1,9 @@
-ghost use Rattle.std.specs.Prelude.{◌≡◌, ◌<◌, ◌≤◌, ◌+◌, Some, length, map, slice_get, unsigned_abs};
+ghost use Rattle.std.specs.Prelude.{◌≡◌, ◌<◌, ◌≤◌, Some, length, map, slice_get, unsigned_abs};
 ghost use Rattle.lattice_algebra.specs.Matrix.{times};
 ghost use Rattle.lattice_algebra.specs.Operator.{AreWithin, HasEntriesWithin};
 ghost use Rattle.exact_ops.specs.declared.TheConstants.{UNIT as PARTS};
 ghost use Rattle.exact_ops.specs.Fields.{matrix_in};
+ghost use Rattle.group_closure.specs.GroupList.{IsGroup};
 ghost use Rattle.space_groups.specs.Regions.{shift_by};
 ghost use Rattle.basis_change.specs.Wide.{wide_column};
 ghost use Rattle.basis_change.specs.Frames.{generators, cells, map_in};
@@ -18,9 +19,18 @@ pub struct Generator {
     pub s: WideVector,
 }
 
-/// One of the generators of the space group: the members of the group, and behind them one cell along each axis.
+/// How many generators the space group has: the members of the group, and one cell along each axis.
+pub fn generator_count(group: &Group) -> u16
+    ensures count { result ≡ length (generators group.now) }
+    // What is true of every group.
+    ensures group { IsGroup group.now }
+{
+    group.len() + 3
+}
+
+/// One of the generators: the members, and behind them the cells.
 pub fn generator_at(group: &Group, i: u16) -> Generator
-    requires { i < length group.now + 3 }
+    requires { i < length (generators group.now) }
     ensures value { slice_get (generators group.now) i ≡ Some (map_in result) }
     ensures narrow { HasEntriesWithin 2 (matrix_in result.w) }
     ensures within { AreWithin PARTS result.s.x result.s.y result.s.z }

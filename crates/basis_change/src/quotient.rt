@@ -1,5 +1,9 @@
 ghost use Rattle.std.specs.Prelude.{◌≡◌, ◌≤◌, ◌<ℤ◌, ◌↔◌, ◌*◌, ◌*ℤ◌, ◌^◌, ℤ, pos, unsigned_abs, IsSome, IfSome};
+ghost use Rattle.std.specs.Int.{int_rem_euclid};
+ghost use Rattle.exact_ops.specs.declared.TheConstants.{UNIT as PARTS};
 ghost use Rattle.basis_change.specs.Wide.{WIDE};
+
+use exact_ops::UNIT;
 
 /// n / k, where it is whole.
 pub fn quotient(n: i64, k: i64) -> Option<i64>
@@ -13,4 +17,11 @@ pub fn quotient(n: i64, k: i64) -> Option<i64>
         return None;
     }
     Some(n / k)
+}
+
+/// A number modulo the cell.
+pub fn part(n: i64) -> i32
+    ensures { result ≡ int_rem_euclid n (pos PARTS) }
+{
+    n.rem_euclid(i64::from(UNIT)) as i32
 }

@@ -62,6 +62,7 @@ impl WideMatrix {
     }
 
     /// The matrix as that of an operator.
+    #[tactic(auto, using(crate::proofs::Sizes::cast_fits))]
     pub fn narrowed(&self) -> Rotation
         requires { HasEntriesWithin 2 (wide_matrix self.now) }
         ensures { matrix_in result ≡ wide_matrix self.now }
@@ -118,6 +119,7 @@ impl WideMatrix {
     }
 
     /// Sign times the adjugate.
+    #[tactic(auto, using(crate::proofs::Sizes::sign_passed, crate::proofs::Sizes::entry_passed))]
     pub fn scaled_adjugate(&self, sign: i64) -> WideMatrix
         requires sign { unsigned_abs sign ≤ 1 }
         requires small { HasEntriesWithin MAX_ENTRY (wide_matrix self.now) }

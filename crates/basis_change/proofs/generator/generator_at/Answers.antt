@@ -1,5 +1,5 @@
 use Rattle.std.proofs.Common.{arith}
-use Rattle.basis_change.proofs.Generators.{cell_at}
+use Rattle.basis_change.proofs.Generators.{as_many, cell_at}
 use Rattle.basis_change.proofs.generator.generator_at.Goals as goal
 
 pub overflow_cast-i : goal.overflow_cast-i
@@ -18,7 +18,7 @@ pub returns-then-i-count-clause-within : goal.returns-then-i-count-clause-within
 returns-then-i-count-clause-within c = c.member.ensures.within
 
 pub cell-requires : goal.cell-requires
-cell-requires c = omega (arith, c.requires, c.len-count.ensures.value, c.if-i-count.false)
+cell-requires c = omega (arith, as_many c.args.group.now, c.requires, c.len-count.ensures.value, c.if-i-count.false)
 
 pub returns-clause-value : goal.returns-clause-value
 returns-clause-value c = cell_at c.args.group.now c.args.i _ _ (omega (arith, c.len-count.ensures.value, c.if-i-count.false)) c.cell.ensures.value

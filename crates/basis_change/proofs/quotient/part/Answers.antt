@@ -2,7 +2,7 @@ use Rattle.std.proofs.Common.{arith, ap, ap₂, ◌∙◌, pos, w32, w64, to_z, 
 use Rattle.std.proofs.lemmas.Int.{ints}
 use Rattle.std.specs.Int.{int_rem_euclid}
 use Rattle.exact_ops.specs.declared.TheConstants.{UNIT}
-use Rattle.basis_change.proofs.elements.part.Goals as goal
+use Rattle.basis_change.proofs.quotient.part.Goals as goal
 
 pub rem_euclid-requires-clause-nonzero : goal.rem_euclid-requires-clause-nonzero
 rem_euclid-requires-clause-nonzero c = search rules
