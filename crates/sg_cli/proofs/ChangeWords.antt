@@ -1,10 +1,10 @@
 -- A text is one change of basis at most, and two texts one change of the cell at most, and whether they are is decided.
 use Rattle.std.proofs.Common.{◌≡◌, ◌⊎◌, ◌≤◌, List, ℕ, pos, inl, inr, ⊎_elim, refl, sym, ap, subst, ◌∙◌, arith}
 use Rattle.std.proofs.lemmas.Int.{ints}
-use Rattle.std.proofs.lemmas.Bool.{cases_lt, false≢true}
+use Rattle.std.proofs.lemmas.Bool.{false≢true}
 use Rattle.lattice_algebra.specs.Matrix.{Matrix, IsUnimodular, det}
 use Rattle.lattice_algebra.specs.Operator.{Operator, HasEntriesWithin}
-use Rattle.lattice_algebra.proofs.Numbers.{zero_or_other}
+use Rattle.lattice_algebra.proofs.Numbers.{zero_or_other, entries_or_not}
 use Rattle.space_groups.specs.Bases.{CoordinateChange, IsInvertible, IsChange, IsBasisChange}
 use Rattle.space_groups.proofs.Changes.{IsInvertible-det}
 use Rattle.std.specs.Prelude.{◌↔◌, Option, Some, None, IsSome, IfSome, IfNone}
@@ -15,7 +15,7 @@ use Rattle.triplet_text.proofs.IntegerLaw.{one_natural, natural_or_none}
 use Rattle.triplet_text.proofs.Decided.{triplet_or_none, unimodular_or_not}
 use Rattle.basis_change.specs.declared.TheConstants.{MAX_CELL}
 use Rattle.basis_change.proofs.Frames.{det_some}
-use Rattle.basis_change.proofs.Decided.{OrNot, both, entries_or_not}
+use Rattle.basis_change.proofs.Decided.{OrNot, both, at_most}
 use Rattle.sg_cli.specs.declared.TheConstants.{CELL_DIGITS}
 use Rattle.sg_cli.specs.Words.{IsOne, AreTwo, IsBasisText, AreCellTexts}
 
@@ -48,9 +48,6 @@ basis_change words c h = subst IsBasisChange (sym h.say.change) (record { unimod
 -- a denominator and a matrix that are in range
 abbrev IsCellInRange : ℕ → Matrix → Type 0
 IsCellInRange d w = ((1 ≤ d) × (d ≤ MAX_CELL)) × (HasEntriesWithin MAX_CELL w × IsInvertible w)
-
-at_most : (n limit : ℕ) → OrNot (n ≤ limit)
-at_most n limit = ⊎_elim (λ more. inr (λ few. omega (arith, more, few))) inl (cases_lt limit n)
 
 invertible_or_not : (w : Matrix) → OrNot (IsInvertible w)
 invertible_or_not w = ⊎_elim (λ z. inr (λ i. det_some w i z)) (λ some. inl (IsInvertible-det w some)) (zero_or_other (det w))

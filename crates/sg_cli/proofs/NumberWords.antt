@@ -2,6 +2,7 @@
 use Rattle.std.proofs.Common.{◌≡◌, ◌⊎◌, ◌≤◌, ◌^◌, List, ℕ, ℤ, unsigned_abs, inl, inr, ⊎_elim, refl, arith}
 use Rattle.std.proofs.lemmas.Bool.{cases_lt}
 use Rattle.lattice_algebra.specs.Operator.{AreWithin}
+use Rattle.lattice_algebra.proofs.Numbers.{within_or_not}
 use Rattle.phase_rules.specs.declared.TheConstants.{MAX_INDEX}
 use Rattle.phase_rules.specs.Rows.{Row}
 use Rattle.reflections.specs.declared.TheConstants.{MAX_HALF, MAX_PLACES}
@@ -10,28 +11,11 @@ use Rattle.grid_tags.specs.declared.TheConstants.{MAX_SIDE, MAX_POINTS}
 use Rattle.grid_tags.specs.Grids.{Grid, IsSide, IsGridInRange, points}
 use Rattle.triplet_text.specs.Integers.{IsNatural, IsInteger}
 use Rattle.triplet_text.proofs.IntegerLaw.{one_natural, natural_or_none, one_integer, integer_or_none}
+use Rattle.basis_change.proofs.Decided.{OrNot, both, at_most, likewise}
 use Rattle.sg_cli.specs.declared.TheConstants.{NUMBER_DIGITS, SEED_DIGITS}
 use Rattle.sg_cli.specs.Words.{AreIndexTexts, AreBoxTexts, AreGridTexts, IsSeedText}
 use Rattle.sg_cli.proofs.ThreeWords.{SaidOrNone}
 use Rattle.sg_cli.proofs.ThreeNumbers.{one_of_numbers, numbers_or_none}
-
--- ---- what is decided
-
-abbrev OrNot : Type 0 → Type 0
-OrNot A = A ⊎ (A → ⊥)
-
-at_most : (n limit : ℕ) → OrNot (n ≤ limit)
-at_most n limit = ⊎_elim (λ more. inr (λ few. omega arith)) inl (cases_lt limit n)
-
-both : {A B : Type 0} → OrNot A → OrNot B → OrNot (A × B)
-both (inl a) (inl b) = inl (a, b)
-both (inr n) b = inr (λ p. n p.0)
-both (inl a) (inr n) = inr (λ p. n p.1)
-
--- what says the same is decided too
-likewise : {A B : Type 0} → OrNot A → (A → B) → (B → A) → OrNot B
-likewise (inl a) f g = inl (f a)
-likewise (inr n) f g = inr (λ b. n (g b))
 
 -- ---- an index
 
@@ -44,16 +28,11 @@ row_of n = record { h = n.0; k = n.1; l = n.2 }
 abbrev IsIndexInRange : Row → Type 0
 IsIndexInRange h = AreWithin MAX_INDEX h.h h.k h.l
 
-index_in_range_or_not : (h : Row) → OrNot (IsIndexInRange h)
-index_in_range_or_not h =
-    likewise (both (both (at_most (unsigned_abs h.h) MAX_INDEX) (at_most (unsigned_abs h.k) MAX_INDEX)) (at_most (unsigned_abs h.l) MAX_INDEX))
-    (λ w. record { first = w.0.0; second = w.0.1; third = w.1 }) (λ w. ((w.first, w.second), w.third))
-
 pub one_index : (x y z : List ℕ) (g h : Row) → AreIndexTexts x y z g → AreIndexTexts x y z h → g ≡ h
 one_index = one_of_numbers (IsInteger NUMBER_DIGITS) row_numbers IsIndexInRange (one_integer NUMBER_DIGITS) row_of (λ h. refl)
 
 pub index_or_none : (x y z : List ℕ) → SaidOrNone AreIndexTexts x y z
-index_or_none = numbers_or_none (IsInteger NUMBER_DIGITS) row_numbers IsIndexInRange (one_integer NUMBER_DIGITS) row_of (λ h. refl) (λ n. refl) (integer_or_none NUMBER_DIGITS) index_in_range_or_not
+index_or_none = numbers_or_none (IsInteger NUMBER_DIGITS) row_numbers IsIndexInRange (one_integer NUMBER_DIGITS) row_of (λ h. refl) (λ n. refl) (integer_or_none NUMBER_DIGITS) (λ h. within_or_not MAX_INDEX h.h h.k h.l)
 
 -- ---- a box
 

@@ -365,9 +365,13 @@ module _ {S K : Type 0} (sink : SeenSink K) (source : SeenSource S) (words : Lis
       unread_made : ReadsNothing words → (result ≢ Err fault.Reading) × (s ≡ s)
       unread_made r = ((λ e. absurd (subst (Answers sink (Answering Sample seed members) old new) e h).0), refl)
 
+  -- what serving did where nothing was read
+  abbrev pub ServesUnread : Result (Unit {0}) Fault → Type 0
+  ServesUnread result = Serves sink source words s s old new result × (IsErrOf result fault.Words ↔ IsNoCommand words) × (ReadsNothing words → (result ≢ Err fault.Reading) × (s ≡ s))
+
   -- what the words asked of the group with the number of the seed
   pub sample_served : (c : Command) (seed : ℕ) → c ≡ commands.Sample seed → IsAsked words (seen c) → (members : List Operator) (number : ℕ) → number ≡ number_of seed → IsSampleGroup number members → (result : Result (Unit {0}) Fault) → Answers sink (Answering Sample seed members) old new result
-      → Serves sink source words s s old new result × (IsErrOf result fault.Words ↔ IsNoCommand words) × (ReadsNothing words → (result ≢ Err fault.Reading) × (s ≡ s))
+      → ServesUnread result
   sample_served c seed e is members number f group result h =
       let asked = subst (λ k. IsAsked words (seen k)) e is in
       let its = subst (λ n. IsSampleGroup n members) f group in

@@ -13,8 +13,8 @@ ghost use Rattle.sg_cli.specs.Words.{IsNoCommand, ReadsNothing, seen, texts};
 
 use crate::MAX_INPUT;
 use crate::fault::Fault;
+use crate::rows::{answer_fit, answer_sample, answer_table, answer_wyckoff};
 use crate::words::{Command, read_words};
-use crate::wyckoff::{answer_fit, answer_sample, answer_table, answer_wyckoff};
 use basis_change::cell::CellChange;
 use basis_change::parts::Change;
 use basis_change::{change, recell};

@@ -15,8 +15,8 @@ mod changes;
 mod fault;
 mod laws;
 mod numbers;
+mod rows;
 mod words;
-mod wyckoff;
 
 pub use answer::{run, tell};
 pub use fault::Fault;

@@ -1,7 +1,7 @@
 use Rattle.std.proofs.Common.{Err, ap, ◌∙◌}
 use Rattle.std.proofs.lemmas.Result.{err_from_is_err_and}
 use Rattle.sg_cli.proofs.Outcomes.{text_stopped}
-use Rattle.sg_cli.proofs.wyckoff.answer_wyckoff.Goals as goal
+use Rattle.sg_cli.proofs.rows.answer_wyckoff.Goals as goal
 
 pub returns-in_err-print_rows-clause-answers : goal.returns-in_err-print_rows-clause-answers
 returns-in_err-print_rows-clause-answers g c =

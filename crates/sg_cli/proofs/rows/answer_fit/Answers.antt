@@ -3,7 +3,7 @@ use Rattle.std.proofs.lemmas.Result.{err_from_is_err_and}
 use Rattle.exact_ops.specs.Numbers.{point_in}
 use Rattle.sg_cli.proofs.Outcomes.{text_stopped}
 use Rattle.sg_cli.proofs.WyckoffTexts.{fitting_line}
-use Rattle.sg_cli.proofs.wyckoff.answer_fit.Goals as goal
+use Rattle.sg_cli.proofs.rows.answer_fit.Goals as goal
 
 pub returns-in_err-print_row-clause-answers : goal.returns-in_err-print_row-clause-answers
 returns-in_err-print_row-clause-answers g c =

@@ -2,7 +2,7 @@ use Rattle.std.proofs.Common.{Err, ap, ◌∙◌}
 use Rattle.std.proofs.lemmas.Result.{err_from_is_err_and}
 use Rattle.sg_cli.proofs.Outcomes.{stop_counted, text_stopped}
 use Rattle.sg_cli.proofs.WyckoffTexts.{same_table_text}
-use Rattle.sg_cli.proofs.wyckoff.answer_table.Goals as goal
+use Rattle.sg_cli.proofs.rows.answer_table.Goals as goal
 
 pub returns-in_err-print_table-clause-answers : goal.returns-in_err-print_table-clause-answers
 returns-in_err-print_table-clause-answers g c =
