@@ -3,6 +3,7 @@ use Rattle.std.proofs.Common.{◌≡◌, ◌⊎◌, ◌<◌, ℕ, zero, suc, ℤ
 use Rattle.std.specs.Int.RustNames.{int_div, int_rem}
 use Rattle.finite_groups.proofs.Members as lists
 use Rattle.lattice_algebra.specs.Operator.{Operator}
+use Rattle.lattice_algebra.proofs.Numbers.{zero_or_other}
 use Rattle.lattice_algebra.proofs.Quotients.{rem_of_multiple, multiple_of_quotient}
 use Rattle.exact_ops.specs.declared.TheConstants.{UNIT}
 use Rattle.exact_ops.proofs.Narrow.{some_parts}
@@ -21,16 +22,11 @@ all_three f p q r (inr n) b c = inr (λ d. n (p d))
 all_three f p q r (inl a) (inr n) c = inr (λ d. n (q d))
 all_three f p q r (inl a) (inl b) (inr n) = inr (λ d. n (r d))
 
-none_or_some : (z : ℤ) → OrNot (z ≡ pos 0)
-none_or_some (pos zero) = inl refl
-none_or_some (pos (suc n)) = inr (λ e. let f = ap unsigned_abs e in omega (arith, f))
-none_or_some (negsuc n) = inr (λ e. let f = ap unsigned_abs e in omega (arith, f))
-
 whole_or_not : (w : ℤ) (n m : ℕ) → 0 < m → OrNot (IsWhole w n m)
 whole_or_not w n m h = ⊎_elim
     (λ z. inl (int_div (w *ℤ pos n) (pos m), multiple_of_quotient (w *ℤ pos n) (pos m) z))
     (λ k. inr (λ whole. k (rem_of_multiple (w *ℤ pos n) (pos m) whole.0 h whole.1)))
-    (none_or_some (int_rem (w *ℤ pos n) (pos m)))
+    (zero_or_other (int_rem (w *ℤ pos n) (pos m)))
 
 axis_or_not : (u v t : ℤ) (n m l : ℕ) → 0 < m → 0 < l → OrNot (IsAxisKept u v t n m l)
 axis_or_not u v t n m l hm hl = all_three (λ a b c. record { second = a; third = b; shift = c }) (λ k. k.second) (λ k. k.third) (λ k. k.shift)
