@@ -7,7 +7,8 @@ ghost use Rattle.affine_sets.specs.Averages.{IsKeyInCell};
 use exact_ops::{Rotation, Vector};
 use std::marker::Model;
 
-/// A matrix over `over` and a translation in parts of a cell over `over`, each number at least 0 and below `UNIT * over`.
+/// A matrix over `over` and a translation in parts of a cell over `over`, each number of which is from 0 to below
+/// `UNIT * over`.
 #[derive(Clone, Copy, Drop)]
 pub struct Key {
     pub(crate) m: Rotation,

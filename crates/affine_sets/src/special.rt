@@ -117,8 +117,8 @@ pub(crate) fn in_cell(m: &Rotation, t: &Offset, over: u16) -> Key
     }
 }
 
-/// The average of a finite group of elements: the sum of their maps, by their number. Its image is exactly the set of points
-/// that all of them fix.
+/// The average of a finite group of elements: the sum of their maps, by their number, over the number of members of the space
+/// group's list. Its image is exactly the set of points that all of them fix.
 pub fn mean(g: &Group, s: &Sub) -> Special
     requires { AreElements g.now s.now }
     ensures mean { IsMean (length g.now) s.now result }

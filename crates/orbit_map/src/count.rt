@@ -9,8 +9,8 @@ use exact_ops::Point;
 use group_closure::Group;
 use site_symmetry::order_at;
 
-/// How many points the orbit of p has in a cell. The order of the site-symmetry group times it is the number of members of
-/// the group.
+/// How many points the orbit of the point has in a cell. The order of the site-symmetry group times it is the number of
+/// members of the group.
 pub fn multiplicity(group: &Group, point: &Point) -> u16
     ensures value { (orbit : List rational.Point)
         → IsOrbitList UNIT group.now (point_in point.now) orbit → result ≡ length orbit }

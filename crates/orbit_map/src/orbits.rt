@@ -11,8 +11,8 @@ use group_closure::Group;
 use std::alloc::Global;
 use std::cmp::Ordering;
 
-/// The points of the orbit of p with coordinates from 0 to below 1, each once, ascending by their coordinates, over the
-/// denominator of p. All memory is taken first.
+/// The points of the orbit of the point with coordinates from 0 to below 1, each once, ascending by their coordinates, over
+/// the denominator of the point. All memory is taken first.
 pub fn orbit(alloc: Global, group: &Group, point: &Point) -> Result<Orbit, NoMemory>
     ensures { IfOk result (λ orbit. IsOrderedOrbit group.now (point_in point.now) orbit) }
 {
@@ -27,7 +27,7 @@ pub fn orbit(alloc: Global, group: &Group, point: &Point) -> Result<Orbit, NoMem
     Ok(Orbit { points })
 }
 
-/// The image of p under the operator, moved into the cell.
+/// The image of the point under the operator, moved into the cell.
 pub fn image_in_cell(op: &Op, point: &Point) -> Point
     requires { IsOperator UNIT op.now }
     ensures three { length result.n ≡ 3 }

@@ -53,7 +53,7 @@ pub struct Tally {
     pub reversers: u16,
     /// Whether one that has h W = h shifts the phase.
     pub shifted: bool,
-    /// The phase shift of one that has h W = -h, where there is one.
+    /// The phase shift h.t of one that has h W = -h, in parts of a cell and from 0 to below `UNIT`, where there is one.
     pub phase: u8,
 }
 

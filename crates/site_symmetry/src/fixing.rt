@@ -12,7 +12,7 @@ use exact_ops::{Move, Point};
 use group_closure::Group;
 
 /// The operator (W, t) at place i, counted from 0, stands for the elements `x -> W x + t / UNIT + shift`, the shift three
-/// whole numbers. This is the one that maps p to itself; there is at most one. None exactly where no such shift does.
+/// whole numbers. This is the one that maps the point to itself; there is at most one. None exactly where no such shift does.
 pub fn fixes(group: &Group, i: u8, point: &Point) -> Option<Move>
     requires { i < length group.now }
     ensures some { (f : Operator) → slice_get group.now i ≡ Some f
@@ -31,7 +31,7 @@ pub fn fixes(group: &Group, i: u8, point: &Point) -> Option<Move>
     })
 }
 
-/// The order of the site-symmetry group: how many elements of the space group map p to itself.
+/// The order of the site-symmetry group: how many elements of the space group map the point to itself.
 pub fn order_at(group: &Group, point: &Point) -> u16
     ensures { (site : List Map) → IsSiteList UNIT group.now (point_in point.now) site
         → result ≡ length site }

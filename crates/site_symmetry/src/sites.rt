@@ -8,7 +8,7 @@ use exact_ops::{NoMemory, Point};
 use group_closure::Group;
 use std::alloc::Global;
 
-/// The elements of the space group that map p to itself, in the order of their operators. All memory is taken first.
+/// The elements of the space group that map the point to itself, in the order of their operators. All memory is taken first.
 pub fn site(alloc: Global, group: &Group, point: &Point) -> Result<Site, NoMemory>
     ensures { IfOk result (λ site. IsOrderedSite group.now (point_in point.now) site) }
 {
