@@ -1,14 +1,17 @@
 -- Worked examples: the definitions on literals, most for P-1 with Friedel's law in the box 1 0 0; nothing cites these.
 use Rattle.std.proofs.Common.{◌≡◌, ◌≢◌, ◌≤◌, ◌⊎◌, ℕ, zero, suc, ℤ, pos, negsuc, ◌+ℤ◌, ◌*ℤ◌, ◌<ℤ◌, neg_ℤ, unsigned_abs, Bool, true, false, List, [], ◌∷◌, inl, inr, ⊎_elim, Contains, ap, sym, ◌∙◌, subst, refl, arith}
 use Rattle.std.specs.Int.{int_rem_euclid}
+use Rattle.std.specs.List.Sorted.{IsStrictlySortedBy}
 use Rattle.std.proofs.lemmas.Bool.{false≢true}
 use Rattle.std.proofs.lemmas.Int.{ints}
 use Rattle.std.proofs.lemmas.List.Kept.{AllPairs-cons}
 use Rattle.std.proofs.lemmas.List.Elements.{All-nil, All-from_recursion}
 use Rattle.finite_groups.proofs.Members as lists
 use Rattle.lattice_algebra.specs.Operator.{Operator, identity_operator}
-use Rattle.lattice_algebra.proofs.Examples.{inverting, both, in_both}
+use Rattle.lattice_algebra.proofs.Examples.{inverting, both, in_both, inverting_is_operator, closed_list}
 use Rattle.exact_ops.specs.declared.TheConstants.{UNIT}
+use Rattle.exact_ops.specs.Narrow.{IsNarrow}
+use Rattle.group_closure.proofs.CellOperators.{cell_operators}
 use Rattle.phase_rules.specs.declared.pairs.Pairs.TheVariants.{Friedel}
 use Rattle.phase_rules.specs.declared.parts.Mark.{Mark}
 use Rattle.phase_rules.specs.declared.parts.Mark.TheVariants.{Free, Phase}
@@ -300,6 +303,23 @@ begun = record {
   lines = All-nil _;
   ordered = λ i j d l m. absurd (omega (arith, m));
 }
+
+walk : IsWalk both (tags_of (false ∷ false ∷ false ∷ [])) []
+unfolding IsStrictlySortedBy
+walk = record {
+  group = record {
+    first = refl;
+    distinct = AllPairs-cons (λ f g. f ≢ g) identity_operator (inverting ∷ []) (All-from_recursion (λ g. identity_operator ≢ g) (inverting ∷ []) (apart_members, tt)) (λ i j d l m. absurd (omega arith));
+    closed = closed_list.closed;
+    sorted = (tt, tt);
+    narrow = All-from_recursion IsNarrow both (record { is_operator = cell_operators.one_in; within_two = omega arith }, (record { is_operator = inverting_is_operator; within_two = omega arith }, tt));
+    within = omega arith;
+  };
+  tags = begun;
+}
+  where
+    apart_members : identity_operator ≢ inverting
+    apart_members e = let x : pos 1 ≡ negsuc 0 = ap (λ (f : Operator). f.w.xx) e in omega (arith, ints)
 
 not_begun : IsWalk both (tags_of (true ∷ false ∷ false ∷ [])) [] → ⊥
 unfolding place_of
