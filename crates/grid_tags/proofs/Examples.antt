@@ -96,6 +96,10 @@ screw_map : IsGridImage (sides 2 2 4) (record { w = fourfold; s = column o o (po
 unfolding ◌·ᶜ◌ ◌+ᶜ◌ times
 screw_map = refl
 
+not_its_image : IsGridImage (sides 2 2 4) (record { w = fourfold; s = column o o (pos 6) }) (column_at (triple 0 1 0)) (column (pos 1) o (pos 1)) → ⊥
+unfolding ◌·ᶜ◌ ◌+ᶜ◌ times
+not_its_image e = let x = ap (λ (c : Column). c.x) e in omega (arith, ints, x)
+
 -- and no grid that has not as many points along x as along y, or whose points along z are no multiple of 4
 not_across : IsWhole (negsuc 0) 2 3 → ⊥
 not_across w = let e : negsuc 1 ≡ w.0 *ℤ pos 3 = w.1 in omega (arith, ints)
