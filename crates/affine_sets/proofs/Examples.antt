@@ -1,4 +1,4 @@
--- The definitions on examples: averages of groups of P-1, in parts of a cell of 24; nothing cites these.
+-- The definitions on examples: averages of groups of P-1, in parts of a cell of 24; only examples cite these.
 use Rattle.std.proofs.Common.{◌≡◌, ℕ, ℤ, pos, negsuc, refl, arith}
 use Rattle.std.proofs.lemmas.Int.{ints}
 use Rattle.lattice_algebra.specs.Matrix.{Column, no_matrix, scaled, times, ◌·◌, ◌·ᶜ◌, ◌+ᶜ◌}
@@ -7,14 +7,14 @@ use Rattle.space_groups.specs.Averages.{Block, block_times, block_scaled}
 use Rattle.affine_sets.specs.Averages.{IsSpecialBlock, whole_part, IsKeyInCell}
 use Rattle.affine_sets.specs.Conjugates.{shift_number}
 
-abbrev column : ℤ → Column
+abbrev pub column : ℤ → Column
 column x = record { x = x; y = pos 0; z = pos 0 }
 
 -- the inversion at x / 48,0,0 and the identity
-abbrev middle : ℤ → Block
+abbrev pub middle : ℤ → Block
 middle x = record { m = no_matrix; t = column x; n = pos 2 }
 
-none : (n : ℕ) → AreWithin n (pos 0) (pos 0) (pos 0)
+pub none : (n : ℕ) → AreWithin n (pos 0) (pos 0) (pos 0)
 none n = record { first = omega arith; second = omega arith; third = omega arith }
 
 half_is_special : IsSpecialBlock (middle (pos 24))

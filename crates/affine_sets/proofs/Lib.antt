@@ -21,6 +21,8 @@ mod KeySteps
 mod KeyRuns
 pub mod KeySizes
 mod Examples
+mod GroupExamples
+mod StepExamples
 mod Placing
 mod PlacedMaps
 mod HeldLists
