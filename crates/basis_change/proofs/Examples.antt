@@ -1,4 +1,4 @@
--- Worked examples: the definitions on literals, in parts of a cell of 24; nothing cites these.
+-- Worked examples: the definitions on literals, in parts of a cell of 24; only examples cite these.
 use Rattle.std.proofs.Common.{◌≡◌, ◌≤◌, ℤ, pos, negsuc, ◌+ℤ◌, ◌*ℤ◌, neg_ℤ, unsigned_abs, List, [], ◌∷◌, ⊎_elim, Contains, ap, sym, ◌∙◌, subst, refl, arith}
 use Rattle.std.specs.Int.{int_rem_euclid}
 use Rattle.std.proofs.lemmas.Int.{ints}
@@ -7,24 +7,20 @@ use Rattle.finite_groups.proofs.Members as lists
 use Rattle.lattice_algebra.specs.Matrix.{Matrix, Column, matrix_of, identity, origin, det, adjugate, scaled, times, ◌·◌, ◌·ᶜ◌, ◌+ᶜ◌}
 use Rattle.lattice_algebra.specs.Operator.{Operator, identity_operator, modulo, AreWithin}
 use Rattle.lattice_algebra.specs.Map.{Map, map_of, identity_map, operator_of}
-use Rattle.lattice_algebra.specs.Point.{image}
-use Rattle.lattice_algebra.proofs.Examples.{column, inversion, inverting, both, point}
+use Rattle.lattice_algebra.proofs.Examples.{column}
 use Rattle.lattice_algebra.proofs.Remainders.{modulo_is}
 use Rattle.exact_ops.specs.declared.TheConstants.{UNIT}
 use Rattle.exact_ops.proofs.Narrow.{some_parts}
 use Rattle.space_groups.specs.Space.{IsElement}
-use Rattle.space_groups.specs.Bases.{CoordinateChange, IsCell, AreWhole, HasChanged, changed_point}
-use Rattle.phase_rules.specs.Rows.{Row, ◌·ʳ◌, ◌·ʳᶜ◌}
-use Rattle.phase_rules.specs.Marks.{phase_shift}
+use Rattle.space_groups.specs.Bases.{CoordinateChange, IsCell, AreWhole, HasChanged}
 use Rattle.basis_change.specs.declared.wide.WideVector.{WideVector}
 use Rattle.basis_change.specs.declared.frame.Frame.{Frame}
 use Rattle.basis_change.specs.declared.cell.RecellFault.TheVariants.{NotCell, NotWhole, Wide, Fine}
 use Rattle.basis_change.specs.Wide.{stored_wide}
 use Rattle.basis_change.specs.Changes.{IsStoredChange, IsStoredCellChange, MayClose, IsRefusedAs, IsRecelled}
 use Rattle.basis_change.specs.Frames.{IsFrame, generators, HasWholeMatrix, HasNarrowMatrix, HasMap, AreChanged}
-use Rattle.basis_change.specs.Laws.{changed_row, MovesSites, KeepsAbsences}
 
-abbrev o : ℤ
+abbrev pub o : ℤ
 o = pos 0
 
 abbrev diagonal : ℤ → ℤ → ℤ → Matrix
@@ -79,10 +75,10 @@ no_frame f = let e : pos 1 ≡ pos 8 = ap (λ (m : Matrix). m.xx) f.right in ome
 
 -- ---- P1 in the cell x/8,y,z, and in 2*x,y,z
 
-abbrev one : List Operator
+abbrev pub one : List Operator
 one = identity_operator ∷ []
 
-element_of_one : (g : Map) → IsElement UNIT one g → (g.w ≡ identity) × (modulo UNIT g.s ≡ origin)
+pub element_of_one : (g : Map) → IsElement UNIT one g → (g.w ≡ identity) × (modulo UNIT g.s ≡ origin)
 unfolding operator_of
 element_of_one g c = ⊎_elim (λ e. (sym (ap (λ (f : Operator). f.w) e), sym (ap (λ (f : Operator). f.t) e))) (λ n. lists.not_in_nil (operator_of UNIT g) n) (lists.Contains-cases (operator_of UNIT g) identity_operator [] c)
 
@@ -202,7 +198,7 @@ unfolding operator_of modulo
 not_whole = (cell_of four (0, omega arith, refl), λ w. no_matrix_of_fourfold (w (map_of fourfold) (1, omega arith, refl)))
 
 -- x+1/2,y,z would have the translation 12/8
-abbrev centred : List Operator
+abbrev pub centred : List Operator
 centred = identity_operator ∷ record { w = identity; t = column (pos 12) o o } ∷ []
 
 matrix_of_centred : (g : Map) → IsElement UNIT centred g → g.w ≡ identity
@@ -305,33 +301,3 @@ not_changed a =
   where
     of_shift : (a b c x : ℤ) → pos 8 *ℤ (a *ℤ o +ℤ b *ℤ o +ℤ c *ℤ o +ℤ x) ≡ pos 24 → x ≡ pos 3
     of_shift a b c x e = omega (arith, ints)
-
--- ---- what a change keeps
-
--- with the inverse of the matrix of x-z,y,z the row 1 2 3 becomes 1 2 4
-abbrev row : ℤ → ℤ → ℤ → Row
-row h k l = record { h = h; k = k; l = l }
-
-a_row : changed_row (record { w = matrix_of (pos 1 ∷ o ∷ negsuc 0 ∷ o ∷ pos 1 ∷ o ∷ o ∷ o ∷ pos 1 ∷ []); t = origin; d = pos 1 }) (row (pos 1) (pos 2) (pos 3)) ≡ row (pos 1) (pos 2) (pos 4)
-unfolding ◌·ʳ◌ det adjugate scaled
-a_row = refl
-
--- in the same coordinates P1 and the list of x,y,z and x+1/2,y,z have not the same absences
-abbrev unchanged : CoordinateChange
-unchanged = record { w = identity; t = origin; d = pos 1 }
-
-other_absences : KeepsAbsences one unchanged centred → ⊥
-unfolding ◌·ʳ◌ ◌·ʳᶜ◌ det adjugate scaled
-other_absences k =
-    let a = (k (row (pos 1) o o)).1 (record { by = record { w = identity; t = column (pos 12) o o }; member = (1, omega arith, refl); fixes = refl; shifts = λ e. omega (arith, ints, e) }) in
-    ⊎_elim (λ e. a.shifts (subst (λ (f : Operator). phase_shift (row (pos 1) o o) f ≡ o) e refl)) (λ n. lists.not_in_nil a.by n) (lists.Contains-cases a.by identity_operator [] a.member)
-
--- and the origin has -x,-y,-z in its site-symmetry group in P-1 and not in P1
-other_sites : MovesSites both unchanged one → ⊥
-unfolding operator_of modulo image changed_point ◌·◌ ◌·ᶜ◌ ◌+ᶜ◌ times
-other_sites m =
-    let g : Map = map_of inverting in
-    let s = (m (point o o o (pos 1)) g (omega (arith, ints))).1 (g, record { element = (1, omega arith, refl); fixes = refl }, record { rotation = refl; translation = refl }) in
-    let e : inversion ≡ identity = (element_of_one g s.element).0 in
-    let x : negsuc 0 ≡ pos 1 = ap (λ (m : Matrix). m.xx) e in
-    omega (arith, ints, x)

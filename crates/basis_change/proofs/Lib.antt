@@ -10,3 +10,4 @@ pub mod ChangedPoints
 pub mod Decided
 pub mod Existence
 mod Examples
+mod LawExamples
