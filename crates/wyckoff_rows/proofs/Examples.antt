@@ -1,41 +1,34 @@
--- Worked examples: the definitions on literals, in parts of a cell of 24; nothing cites these.
-use Rattle.std.proofs.Common.{◌≡◌, ◌<◌, ◌≤◌, ◌*◌, ◌⊎◌, ℕ, zero, suc, ℤ, pos, negsuc, ◌+ℤ◌, ◌*ℤ◌, unsigned_abs, Bool, true, false, Option, None, Some, List, [], ◌∷◌, length, slice_get, inl, inr, ⊎_elim, Contains, ap, sym, ◌∙◌, subst, refl, arith}
+-- Worked examples: the definitions on literals, in parts of a cell of 24; only examples cite these.
+use Rattle.std.proofs.Common.{◌≡◌, ◌≤◌, ◌*◌, ◌⊎◌, ℕ, zero, suc, ℤ, pos, negsuc, ◌+ℤ◌, ◌*ℤ◌, unsigned_abs, Bool, true, false, Option, None, Some, List, [], ◌∷◌, slice_get, inl, inr, ⊎_elim, ap, sym, ◌∙◌, subst, refl, arith}
 use Rattle.std.proofs.lemmas.Bool.{false≢true}
 use Rattle.std.proofs.lemmas.Int.{ints}
-use Rattle.std.proofs.lemmas.List.Elements.{All-nil, All-push, All-from_recursion}
+use Rattle.std.proofs.lemmas.List.Elements.{All-nil, All-push}
 use Rattle.std.specs.declared.cmp.Ordering.TheVariants.{Less, Greater}
 use Rattle.finite_groups.proofs.Members as lists
-use Rattle.lattice_algebra.specs.Matrix.{Matrix, Column, coordinates, matrix_of, identity, origin, no_matrix, scaled, times, ◌·◌, ◌·ᶜ◌, ◌+ᶜ◌, ◌+ᵐ◌}
+use Rattle.lattice_algebra.specs.Matrix.{Matrix, Column, matrix_of, identity, origin, no_matrix, scaled, times, ◌·◌, ◌·ᶜ◌, ◌+ᶜ◌, ◌+ᵐ◌}
 use Rattle.lattice_algebra.specs.Operator.{Operator, identity_operator, product, modulo, IsInverse, AreWithin}
-use Rattle.lattice_algebra.specs.Map.{Map, ◌∘◌, identity_map, operator_of, IsShift}
-use Rattle.lattice_algebra.proofs.Examples.{column, inversion, inverting, both, in_both, point}
+use Rattle.lattice_algebra.specs.Map.{Map, identity_map, operator_of, IsShift}
+use Rattle.lattice_algebra.proofs.Examples.{column, inversion, inverting, both, in_both}
 use Rattle.lattice_algebra.proofs.Remainders.{modulo_is}
 use Rattle.exact_ops.specs.declared.TheConstants.{UNIT}
-use Rattle.exact_ops.specs.Moves.{map_with}
 use Rattle.exact_ops.proofs.Narrow.{some_parts}
 use Rattle.affine_sets.specs.declared.keys.Sizes.{Sizes}
-use Rattle.affine_sets.specs.declared.TheConstants.{MAX_GROWN_SHIFT, MAX_NEAR_SHIFT}
+use Rattle.affine_sets.specs.declared.TheConstants.{MAX_GROWN_SHIFT}
 use Rattle.affine_sets.specs.Subs.{AreShiftsWithin}
 use Rattle.affine_sets.specs.Averages.{KeyOver}
-use Rattle.affine_sets.specs.Conditions.{IsAverage}
 use Rattle.space_groups.specs.Space.{ScaledPoint, IsElement, moved}
 use Rattle.space_groups.proofs.ScaledPoints.{moved-identity}
-use Rattle.space_groups.specs.Averages.{block_of, block_plus, block_scaled, IsMean}
-use Rattle.space_groups.specs.Keys.{key_of}
 use Rattle.space_groups.specs.Regions as Regions
-use Rattle.space_groups.specs.Search.{FixAll, IsSub}
-use Rattle.wyckoff_rows.specs.declared.entry.Entry.{Entry}
+use Rattle.space_groups.specs.Search.{FixAll}
 use Rattle.wyckoff_rows.specs.declared.parts.Row.{Row}
 use Rattle.wyckoff_rows.specs.declared.ranges.Range.{Range}
 use Rattle.wyckoff_rows.specs.declared.spans.Taken.{Taken}
 use Rattle.wyckoff_rows.specs.Shown.{row_cmp}
 use Rattle.wyckoff_rows.specs.Spanning.{AreFew, rest_of, taken_column, with_units}
 use Rattle.wyckoff_rows.specs.Spanning as spanning
-use Rattle.wyckoff_rows.specs.Steps.{IsAverageNearOrigin, AreKept, HasKeyOf, AreMet, HasGrown, IsGrownByAll, Extends, StandsFor, AreEnough, IsCovered, IsPlaceIn, IsInCoset, IsAlike, IsIn, IsPushed, AreTried, IsCandidate, IsVisited, last_set, IsKeptMore, IsAdded}
-use Rattle.wyckoff_rows.specs.Table.{IsRowOfAverage, IsTableOf}
-use Rattle.wyckoff_rows.specs.Laws.{IsOnlyPlaceOf, IsPlaceOfBoth}
+use Rattle.wyckoff_rows.specs.Steps.{StandsFor, AreEnough, IsCovered, IsPlaceIn, IsInCoset, IsAlike, IsIn, AreTried, IsCandidate}
 
-abbrev o : ℤ
+abbrev pub o : ℤ
 o = pos 0
 
 -- ---- columns that span an image
@@ -142,16 +135,20 @@ not_in_coset c = ⊎_elim (λ e. by (subst (λ (s : Map). (identity_operator ≡
     by (inl e) = not_same (ap (λ (f : Operator). f.w) e)
     by (inr i) = not_same (sym i.left)
 
+not_alike : IsAlike (identity_map ∷ []) inverting identity_operator → ⊥
+unfolding operator_of product modulo ◌·◌ ◌·ᶜ◌ ◌+ᶜ◌
+not_alike a = ⊎_elim (λ e. not_in_coset (subst (λ (s : Map). IsInCoset (identity_map ∷ []) (product UNIT inverting (operator_of UNIT s)) identity_operator) (sym e) a.2)) (λ n. lists.not_in_nil a.0 n) (lists.Contains-cases a.0 identity_map [] a.1)
+
 -- ---- elements that stand for others, in P-1
 
 -- the inversion at x / 48
 abbrev inversion_at : ℤ → Map
 inversion_at x = record { w = inversion; s = column x o o }
 
-abbrev trivial : List Map
+abbrev pub trivial : List Map
 trivial = identity_map ∷ []
 
-fixed : (z : ScaledPoint) → FixAll trivial z
+pub fixed : (z : ScaledPoint) → FixAll trivial z
 fixed z e c = ⊎_elim (λ p. subst (λ (e : Map). moved e z ≡ z) p (moved-identity z)) (λ n. lists.not_in_nil e n) (lists.Contains-cases e identity_map [] c)
 
 -- the inversion at the origin stands for that at 1,0,0: the shift by -1,0,0 moves what the one fixes to what the other fixes
@@ -203,7 +200,7 @@ unfolding operator_of modulo
 stands = record { by = back_by_one; element = (0, omega arith, refl); points = λ z. ((λ h. (fixed (moved back_by_one z), there z h.1)), (λ h. (fixed z, back z h.1))) }
 
 -- and not for that at 1/2,0,0: the elements move 1/2,0,0 to n + 1/2,0,0
-half : ScaledPoint
+pub half : ScaledPoint
 half = record { n = column (pos 12) o o; d = 1; some = omega arith }
 
 stands_not : StandsFor both trivial (inversion_at o) (inversion_at (pos 24)) → ⊥
@@ -264,7 +261,7 @@ no_shift size k e = record { first = by k.x (ap (λ (c : Column). c.x) e); secon
     by : (n : ℤ) → o ≡ o +ℤ pos 24 *ℤ n → unsigned_abs n ≤ size
     by n e = subst (λ m. unsigned_abs m ≤ size) (sym (none n e)) (omega arith)
 
-without_shift : (size : ℕ) (g : Map) → modulo UNIT g.s ≡ origin → g.s ≡ origin → AreShiftsWithin size (g ∷ [])
+pub without_shift : (size : ℕ) (g : Map) → modulo UNIT g.s ≡ origin → g.s ≡ origin → AreShiftsWithin size (g ∷ [])
 without_shift size g p q = All-push (λ (e : Map). (k : Column) → IsShift UNIT e k → AreWithin size k.x k.y k.z) [] g (All-nil _) (λ k e. no_shift size k (sym q ∙ e ∙ ap (λ c. c +ᶜ times (pos 24) k) p))
 
 candidate : IsCandidate both (inversion_at o)
@@ -280,124 +277,3 @@ no_candidate c = ⊎_elim (λ e. by e) (λ e. by' e) (in_both _ c.element)
 
     by' : inverting ≡ record { w = identity; t = column (pos 12) o o } → ⊥
     by' e = let x : o ≡ pos 12 = ap (λ (f : Operator). f.t.x) e in omega (arith, ints, x)
-
--- ---- kept groups, in P1
-
-abbrev one : List Operator
-one = identity_operator ∷ []
-
--- the group of the identity alone
-abbrev alone : Entry
-alone = record { set = trivial; average = record { m = identity; t = origin; n = pos 1 }; key = record { key = record { m = identity; t = origin }; over = 1 }; mult = 1 }
-
-trivial_is_sub : IsSub UNIT one trivial
-unfolding operator_of modulo ◌∘◌ ◌·◌ ◌·ᶜ◌ ◌+ᶜ◌
-trivial_is_sub = record {
-  elements = All-from_recursion (IsElement UNIT one) trivial ((0, omega arith, refl), tt);
-  once = λ i j d l m. absurd (omega arith);
-  identity = (0, omega arith, refl);
-  products = λ e f p q. subst (Contains trivial) (ap (λ g. g ∘ f) (only e p)) (subst (λ f. Contains trivial (identity_map ∘ f)) (only f q) (0, omega arith, refl));
-}
-  where
-    only : (e : Map) → Contains trivial e → identity_map ≡ e
-    only e c = ⊎_elim (λ p. p) (λ n. lists.not_in_nil e n) (lists.Contains-cases e identity_map [] c)
-
-its_mean : IsMean 1 trivial alone.average
-unfolding block_scaled block_plus block_of scaled times ◌+ᵐ◌ ◌+ᶜ◌
-its_mean = refl
-
-near : IsAverageNearOrigin one alone.average
-unfolding modulo
-near = record { group = trivial; is_group = trivial_is_sub; mean = its_mean; shifts = without_shift MAX_NEAR_SHIFT identity_map refl refl }
-
-average : IsAverage one alone.average
-unfolding modulo
-average = record { group = trivial; is_group = trivial_is_sub; mean = its_mean; shifts = without_shift MAX_GROWN_SHIFT identity_map refl refl }
-
-not_twice : AreKept one (alone ∷ alone ∷ []) → ⊥
-not_twice k = k.apart 0 1 alone (omega arith) (omega arith) refl
-
-no_key : HasKeyOf one [] alone.average → ⊥
-no_key h = lists.not_in_nil h.0 h.1
-
-none_met : AreMet one [] []
-none_met k c = lists.not_in_nil k c
-
-not_met : AreMet one [] (alone.key ∷ []) → ⊥
-unfolding key_of modulo
-not_met m = no_key (m alone.key (0, omega arith, refl) alone.average average refl)
-
--- a translation fixes no point, so that there is nothing to keep; the identity fixes each
-abbrev translation : Map
-translation = record { w = identity; s = column (pos 24) o o }
-
-nothing_grown : HasGrown one [] alone translation
-unfolding moved times ◌·ᶜ◌ ◌+ᶜ◌
-nothing_grown y f m = absurd (by y.n.x y.n.y y.n.z y.d y.some (ap (λ (v : ScaledPoint). v.n.x) m))
-  where
-    by : (x y z : ℤ) (d : ℕ) → 0 < d → pos 1 *ℤ x +ℤ o *ℤ y +ℤ o *ℤ z +ℤ pos d *ℤ pos 24 ≡ x → ⊥
-    by x y z d l e = omega (arith, ints, l, e)
-
-not_grown : HasGrown one [] alone identity_map → ⊥
-not_grown h = let t = h half (fixed half) (moved-identity half) in lists.not_in_nil t.0 t.1
-
-not_by_all : IsGrownByAll one [] alone → ⊥
-unfolding operator_of modulo
-not_by_all h = not_grown (h identity_map (0, omega arith, refl))
-
-extended : Extends [] (alone ∷ [])
-extended = (alone ∷ [], refl)
-
-longer : (more : List Entry) (t : Entry) → [] ≡ t ∷ more → ⊥
-longer more t e = omega (arith, ap (λ (l : List Entry). length l) e)
-
-not_extended : Extends (alone ∷ []) [] → ⊥
-not_extended e = longer e.0 alone e.1
-
-not_visited : IsVisited one (alone ∷ []) [] → ⊥
-not_visited v = not_extended v.extends
-
-its_set : last_set (alone ∷ []) ≡ trivial
-its_set = refl
-
-no_more : IsKeptMore false (alone ∷ []) alone (alone ∷ [])
-no_more = record { one = λ e. absurd (false≢true e); none = λ e. refl }
-
-not_kept : IsKeptMore true [] alone [] → ⊥
-not_kept k = let t = k.one refl in longer [] t.0 t.1
-
-added : IsAdded true [] alone.average (alone ∷ [])
-added = record { one = λ e. (alone, refl, refl); none = λ e. absurd (false≢true (sym e)) }
-
-not_added : IsAdded false [] alone.average (alone ∷ []) → ⊥
-not_added a = longer [] alone (sym (a.none refl))
-
--- the elements of the operator x,y,z without a whole shift
-pushed : IsPushed (λ (k : Column). k ≡ origin) identity_operator [] trivial
-unfolding ◌+ᶜ◌ times
-pushed = record {
-  extends = λ c m. lists.not_in_nil c m;
-  more = λ k e. subst (λ (k : Column). Contains trivial (map_with identity_operator (coordinates k))) (sym e) (0, omega arith, refl);
-  only = λ c m. ⊎_elim (λ e. inr (origin, refl, e)) (λ n. lists.not_in_nil c n) (lists.Contains-cases c identity_map [] m);
-}
-
-not_pushed : IsPushed (λ (k : Column). k ≡ origin) identity_operator [] [] → ⊥
-not_pushed p = lists.not_in_nil _ (p.more origin refl)
-
--- ---- tables
-
--- no row is no table, since each point fits a row; and no row of P1 has 2 points
-no_table : IsTableOf one [] → ⊥
-no_table t = let r = t.table.every (point o o o (pos 1)) (omega (arith, ints)) in omega (arith, r.2.within)
-
-not_its_points : IsRowOfAverage one (record { mult = 2; key = record { m = identity; t = origin } }) → ⊥
-not_its_points r = by (length r.full) r.mult
-  where
-    by : (n : ℕ) → n * 2 ≡ 1 → ⊥
-    by n e = omega (arith, e)
-
-no_place : IsOnlyPlaceOf one [] (point o o o (pos 1)) 0 → ⊥
-no_place p = omega (arith, p.at.within)
-
-no_place_of_both : IsPlaceOfBoth one [] (point o o o (pos 1)) (point o o o (pos 1)) 0 → ⊥
-no_place_of_both p = omega (arith, p.at.within)

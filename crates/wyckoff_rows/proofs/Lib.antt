@@ -19,3 +19,4 @@ mod PlaceOfRow
 mod RangeEnds
 mod SpanningColumns
 mod Examples
+mod KeptExamples
