@@ -4,3 +4,4 @@ mod Sets
 pub mod Triplets
 mod CountSteps
 mod MadePoints
+mod Examples
