@@ -15,3 +15,4 @@ pub mod Answers
 mod Tabled
 mod SameGroup
 pub mod Outcomes
+mod Examples
