@@ -77,9 +77,6 @@ pub record IsFirstOfRun (members : List Operator) (s : KeyOver) (m : Matrix) (be
   pub earlier : IsNoLater first best
   pub behind : AreNotBefore members s first start i
 
-pub run_of_none : (members : List Operator) (s : KeyOver) (m : Matrix) (best : KeyOver) (start : ℕ) → IsCandidate members s m best → IsFirstOfRun members s m best best start start
-run_of_none members s m best start c = record { candidate = c; earlier = λ k l. l; behind = λ i f k l r e b. absurd (omega (arith, l, r)) }
-
 pub one_of_run : (members : List Operator) (s : KeyOver) (m : Matrix) (best first base next : KeyOver) (q : Sizes) (start i count : ℕ) (f : Operator) → IsFirstOfRun members s m best first start i
     → 0 < s.over → slice_get members i ≡ Some f → turned_matrix f s.key.m ≡ m → base.key ≡ carried_key f s → base.over ≡ s.over → AreEnoughFor q m s.over → count ≡ q.x * q.y * q.z → IsFirstUpTo base first next q count
     → IsFirstOfRun members s m best next start (i + 1)

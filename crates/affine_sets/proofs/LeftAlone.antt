@@ -19,7 +19,7 @@ use Rattle.space_groups.specs.Averages.{Block, block_of, block_plus, block_times
 use Rattle.space_groups.specs.Search.{IsFull}
 use Rattle.space_groups.proofs.Blocks.{block_of-∘, block_times_assoc, identity_times, block_path, number_times}
 use Rattle.space_groups.proofs.Means as means
-use Rattle.space_groups.proofs.Means.{Averaged, kept_fixed}
+use Rattle.space_groups.proofs.Means.{Averaged}
 use Rattle.space_groups.proofs.Sites.{image_of_base}
 use Rattle.space_groups.proofs.Divided.{one_rotation}
 use Rattle.space_groups.proofs.Rows.{some_members}

@@ -1,6 +1,5 @@
 -- Averages over full groups have one key exactly where an element carries the image of the one onto that of the other.
 use Rattle.std.proofs.Common.{◌≡◌, ◌↔◌, List, length}
-use Rattle.lattice_algebra.specs.Map.{Map}
 use Rattle.lattice_algebra.specs.Operator.{Operator}
 use Rattle.exact_ops.specs.declared.TheConstants.{UNIT}
 use Rattle.group_closure.specs.GroupList.{IsGroup}

@@ -1,5 +1,5 @@
 -- The sum of a finite group of elements, by their number, over the number of members.
-use Rattle.std.proofs.Common.{◌≡◌, ◌++◌, ◌∷◌, [], ◌≤◌, ◌+◌, ◌*◌, ◌^◌, ◌<◌, ◌/◌, ℕ, ℤ, pos, ◌+ℤ◌, ◌*ℤ◌, ◌<ℤ◌, unsigned_abs, List, length, ap, ap₂, sym, refl, subst, ◌∙◌, arith, le_trans, mul-le-mul, le_refl, T, ltb}
+use Rattle.std.proofs.Common.{◌≡◌, ◌++◌, [], ◌∷◌, ◌≤◌, ◌+◌, ◌*◌, ◌^◌, ◌<◌, ◌/◌, ℕ, ℤ, pos, ◌+ℤ◌, ◌*ℤ◌, ◌<ℤ◌, unsigned_abs, List, length, ap, ap₂, sym, refl, subst, ◌∙◌, arith, le_trans, mul-le-mul, le_refl, T, ltb}
 use Rattle.std.proofs.lemmas.Int.{ints, unsigned_abs-mul}
 use Rattle.std.proofs.lemmas.Nat.{div-mul-add}
 use Rattle.std.proofs.Math.Nat.{div-le_self}
@@ -30,10 +30,6 @@ use Rattle.affine_sets.specs.Conditions.{IsSumOfGroup}
 pub sum_push : (list : List Map) (e : Map) → sum_of (list ++ e ∷ []) ≡ block_plus (sum_of list) (block_of e)
 sum_push [] e = block_plus_comm (block_of e) no_block
 sum_push (g ∷ list) e = ap (block_plus (block_of g)) (sum_push list e) ∙ sym (block_plus_assoc (block_of g) (sum_of list) (block_of e))
-
-pub number_more : (a : Block) (e : Map) → (block_plus a (block_of e)).n ≡ a.n +ℤ pos 1
-unfolding block_plus block_of
-number_more a e = refl
 
 entry_more : (n : ℕ) (a b : ℤ) → unsigned_abs a ≤ 2 * n → unsigned_abs b ≤ 2 → unsigned_abs (a +ℤ b) ≤ 2 * (n + 1)
 entry_more n a b p q = omega (arith, abs_add a b)

@@ -1,12 +1,12 @@
 -- What a change of coordinates asks of a space group is decided: quotients, matrices, maps, one cell along each axis.
-use Rattle.std.proofs.Common.{◌≡◌, ◌≢◌, ◌⊎◌, ◌≤◌, ◌∷◌, [], ℕ, ℤ, pos, ◌*ℤ◌, unsigned_abs, int_div, int_rem, List, All, Contains, inl, inr, ⊎_elim, refl, sym, ◌∙◌, subst, arith}
+use Rattle.std.proofs.Common.{◌≡◌, ◌≢◌, ◌⊎◌, ◌≤◌, ◌∷◌, [], ℕ, ℤ, pos, ◌*ℤ◌, int_div, int_rem, List, All, Contains, inl, inr, ⊎_elim, refl, sym, ◌∙◌, subst, arith}
 use Rattle.std.proofs.lemmas.Bool.{cases_Bool, cases_lt, false≢true}
 use Rattle.std.proofs.lemmas.List.Elements.{All-nil, All-cons, All-contains, All-weaker, All-contains_itself}
 use Rattle.std.specs.List.{list_any}
 use lib.IntN.{*ℤ_comm}
 use Rattle.finite_groups.proofs.Members.{Contains-here, Contains-later}
 use Rattle.lattice_algebra.specs.Matrix.{Matrix, Column, ◌·◌, ◌·ᶜ◌, ◌+ᶜ◌, neg_column, times, scaled, identity}
-use Rattle.lattice_algebra.specs.Operator.{Operator, AreWithin, HasEntriesWithin}
+use Rattle.lattice_algebra.specs.Operator.{Operator, HasEntriesWithin}
 use Rattle.lattice_algebra.specs.Map.{Map, operator_of}
 use Rattle.lattice_algebra.proofs.Equality.{operator_eq, contains-is}
 use Rattle.lattice_algebra.proofs.Numbers.{zero_or_other, some_size, entries_or_not}

@@ -1,5 +1,5 @@
 -- A change of coordinates with its inverse: what is computed from it.
-use Rattle.std.proofs.Common.{◌≡◌, ◌≢◌, ◌↔◌, ◌≤◌, ◌-◌, ◌*◌, ◌∷◌, [], ℕ, ℤ, pos, ◌+ℤ◌, ◌*ℤ◌, neg_ℤ, ◌<ℤ◌, ◌≤ℤ◌, unsigned_abs, w32, w64, FitsSigned, List, ap, sym, ◌∙◌, subst, refl, arith, le_trans, le_refl, to_z-of_z, Option, Some, slice_get, map}
+use Rattle.std.proofs.Common.{◌≡◌, ◌≢◌, ◌↔◌, ◌≤◌, ◌-◌, ◌*◌, [], ◌∷◌, ℕ, ℤ, pos, ◌+ℤ◌, ◌*ℤ◌, neg_ℤ, ◌<ℤ◌, ◌≤ℤ◌, unsigned_abs, w32, w64, FitsSigned, List, ap, sym, ◌∙◌, subst, refl, arith, le_trans, le_refl, to_z-of_z, Option, Some, slice_get, map}
 use Rattle.std.proofs.lemmas.Int.{ints}
 use Rattle.std.specs.Int.{int_rem_euclid}
 use Rattle.lattice_algebra.specs.Matrix.{Matrix, Column, det, adjugate, scaled, identity, matrix_of, column_of, ◌·◌, ◌·ᶜ◌, ◌+ᶜ◌, neg_column, times}
@@ -11,7 +11,7 @@ use Rattle.lattice_algebra.proofs.MatrixRing.{sym_det, sym_scaled, sym_identity}
 use Rattle.lattice_algebra.proofs.Columns.{·ᶜ-times}
 use Rattle.std.specs.Prelude.{option_map, unwrap_or}
 use Rattle.std.proofs.lemmas.Option.{slice_get-map}
-use Rattle.lattice_algebra.proofs.Numbers.{abs_mul, cancel_some}
+use Rattle.lattice_algebra.proofs.Numbers.{cancel_some}
 use Rattle.lattice_algebra.proofs.Matrices.{·-adjugate, adjugate-·, det-·}
 use Rattle.lattice_algebra.proofs.Maps.{operator_path}
 use Rattle.lattice_algebra.proofs.Remainders.{modulo_parts}
@@ -139,12 +139,6 @@ passed_divisor d dd a b B e f h = ((λ p. let q = h.0 p in (q.0, ap (λ z. times
 
 pub sign_some : (k n : ℤ) → k ≡ n → n ≢ pos 0 → k ≢ pos 0
 sign_some k n e h z = h (sym e ∙ z)
-
-pub sign_size : (s n : ℤ) (b : ℕ) → unsigned_abs s ≤ 1 → unsigned_abs n ≤ b → unsigned_abs (s *ℤ n) ≤ b
-sign_size s n b h l = le_trans (abs_mul s n b l) (one_factor (unsigned_abs s) b h)
-  where
-    one_factor : (a b : ℕ) → a ≤ 1 → a * b ≤ b
-    one_factor a b h = grind arith
 
 -- a frame from its numbers
 pub is_frame : (f : Frame) (s n : ℤ) (d : ℕ) → HasEntriesWithin MAX_ENTRY (wide_matrix f.w) → HasEntriesWithin WIDE (wide_matrix f.v) → wide_matrix f.v ≡ scaled s (adjugate (wide_matrix f.w)) → f.k ≡ s *ℤ n → n ≡ det (wide_matrix f.w) → pos 0 <ℤ (s *ℤ n) → AreParts UNIT (wide_column f.t) → f.d ≡ pos d → 1 ≤ d → d ≤ MAX_CELL → IsFrame f

@@ -1,5 +1,5 @@
 -- The grid points to which operators and elements of the space group take a grid point.
-use Rattle.std.proofs.Common.{◌≡◌, ℕ, ◌<◌, ◌≤◌, ℤ, pos, ◌+ℤ◌, ◌*ℤ◌, unsigned_abs, ◌∷◌, [], ap, sym, ◌∙◌, subst, refl, arith}
+use Rattle.std.proofs.Common.{◌≡◌, ℕ, ◌<◌, ◌≤◌, ℤ, pos, ◌+ℤ◌, ◌*ℤ◌, unsigned_abs, [], ◌∷◌, ap, sym, ◌∙◌, subst, refl, arith}
 use Rattle.std.specs.Int.{int_rem_euclid}
 use Rattle.std.specs.Int.RustNames.{int_div}
 use Rattle.std.proofs.lemmas.Int.{ints}
@@ -69,13 +69,6 @@ module _ (w u v t : ℤ) (n m l i j k : ℕ) (hn : 0 < n) (hm : 0 < m) (hl : 0 <
       (r.0, has_coordinate n m l w u v (t +ℤ pos UNIT *ℤ r.0) hm hl (pos i) (pos j) (pos k) p.0 q.0 (s.0 +ℤ pos n *ℤ r.0) _ p.1 q.1 (more_shift t s.0 r.0 n s.1) (c ∙ r.1 ∙ sym (regroup w (pos i) p.0 (pos j) q.0 (pos k) s.0 (pos n) r.0)))
 
 -- ---- an operator
-
-map_shift : (f : Operator) → map_of f ≡ shifted UNIT f (record { x = pos 0; y = pos 0; z = pos 0 })
-unfolding ◌+ᶜ◌ times
-map_shift f = λ h. record { w = f.w; s = record { x = plain f.t.x h; y = plain f.t.y h; z = plain f.t.z h } }
-  where
-    plain : (t : ℤ) → t ≡ t +ℤ pos UNIT *ℤ pos 0
-    plain t = ring (t ∷ []) (var 0) (var 0 ⊕ con (pos UNIT) ⊗ con (pos 0)) tt
 
 module _ (s : Grid) (sides : HasSides s) (f : Operator) where
   -- the axes are kept where each grid point goes to one

@@ -1,5 +1,5 @@
 -- Whether a group keeps a grid is decided.
-use Rattle.std.proofs.Common.{◌≡◌, ◌⊎◌, ◌<◌, ℕ, zero, suc, ℤ, pos, negsuc, ◌*ℤ◌, unsigned_abs, List, [], ◌∷◌, inl, inr, ⊎_elim, refl, ap, subst, arith, Contains}
+use Rattle.std.proofs.Common.{◌⊎◌, ◌<◌, ℕ, ℤ, pos, ◌*ℤ◌, List, [], ◌∷◌, inl, inr, ⊎_elim, subst, Contains}
 use Rattle.std.specs.Int.RustNames.{int_div, int_rem}
 use Rattle.finite_groups.proofs.Members as lists
 use Rattle.lattice_algebra.specs.Operator.{Operator}

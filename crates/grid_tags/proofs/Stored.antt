@@ -182,9 +182,6 @@ kept_more members s i f e k h g c =
 
 -- ---- translations
 
-moved_by : (i k n : ℕ) → moved_coordinate i (pos k) n ≡ (i + k * n / UNIT) % n
-moved_by i k n = refl
-
 shift_below : (k n : ℕ) → k < UNIT → k * n / UNIT ≤ n
 shift_below k n l = let a : k * n ≤ UNIT * n = mul-le-mul_right n (omega (arith, l)) in omega (arith, a)
 

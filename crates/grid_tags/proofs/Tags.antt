@@ -24,9 +24,6 @@ use Rattle.grid_tags.proofs.OrbitLaws.{triple_eq-is, in_orbit, orbit_itself, orb
 pub sides_of : (s : Grid) → IsGridInRange s → HasSides s
 sides_of s g = record { a = omega (arith, g.a.0); b = omega (arith, g.b.0); c = omega (arith, g.c.0) }
 
-pub sides_in : (s : Grid) (p : Triple) → IsInGrid s p → HasSides s
-sides_in s p i = record { a = omega (arith, i.i); b = omega (arith, i.j); c = omega (arith, i.k) }
-
 module _ (s : Grid) where
   pub place_within : (p : Triple) → IsInGrid s p → place_of s p < points s
   unfolding place_of

@@ -1,5 +1,5 @@
 -- Operators close and have a group list, or are unclosed: products are taken until nothing new comes, as `close` does.
-use Rattle.std.proofs.Common.{◌≡◌, ◌≢◌, ◌⊎◌, ◌+◌, ◌<◌, ◌≤◌, ℕ, zero, suc, List, [], ◌∷◌, ◌++◌, length, refl, sym, ap, ◌∙◌, subst, arith, All, Contains, inl, inr, ⊎_elim, length-append, Ordering, Less, Equal, Greater}
+use Rattle.std.proofs.Common.{◌≡◌, ◌≢◌, ◌⊎◌, ◌+◌, ℕ, zero, suc, List, [], ◌∷◌, ◌++◌, length, refl, sym, ap, ◌∙◌, subst, arith, All, Contains, inl, inr, ⊎_elim, length-append, Ordering, Less, Equal, Greater}
 use Rattle.std.specs.List.{list_any}
 use Rattle.std.specs.Ordering.{ordering_reverse}
 use Rattle.std.proofs.lemmas.Bool.{cases_Bool, false≢true}
@@ -9,7 +9,7 @@ use Rattle.std.proofs.lemmas.Map.Keys.{sorted_from_all_adjacent}
 use Rattle.finite_groups.proofs.Closing as closing
 use Rattle.finite_groups.proofs.Members as lists
 use Rattle.finite_groups.proofs.Sorting as sorting
-use Rattle.lattice_algebra.specs.Matrix.{Matrix, ◌·◌}
+use Rattle.lattice_algebra.specs.Matrix.{◌·◌}
 use Rattle.lattice_algebra.specs.Operator.{Operator, IsOperator, HasEntriesWithin, product, identity_operator}
 use Rattle.lattice_algebra.proofs.Equality.{operator_eq, contains-is}
 use Rattle.lattice_algebra.proofs.Numbers.{entries_or_not}

@@ -129,9 +129,6 @@ pub record IsCandidate (members : List Operator) (f : Operator) (c : ℕ) : Type
   pub all : (k : ℕ) → slice_get members k ≡ Some f → k < c
 
 module _ (members : List Operator) (heads before : List ℕ) (f : Operator) (w : AreFiled members heads before) where
-  pub candidate_first : IsCandidate members f (get_or heads (bucket_of f) 0)
-  candidate_first = record { within = w.within (bucket_of f); in_bucket = λ g p e. w.last_in (bucket_of f) g p e; all = λ k e. w.last k f e }
-
   pub candidate_next : (c : ℕ) (m : Operator) → IsCandidate members f c → 0 < c → slice_get members (c - 1) ≡ Some m → m ≢ f → IsCandidate members f (get_or before (c - 1) 0)
   candidate_next c m i p at n =
       let l = slice_get_within members (c - 1) m at in
@@ -144,9 +141,6 @@ module _ (members : List Operator) (heads before : List ℕ) (f : Operator) (w :
             (λ h. let s : k ≡ c - 1 = omega (arith, h, i.all k e) in absurd (n (one_there members (c - 1) m f at (ap (λ j. slice_get members j) (sym s) ∙ e))))
             (cases_lt k (c - 1));
       }
-
-  pub falls_at : (c : ℕ) → IsCandidate members f c → 0 < c → get_or before (c - 1) 0 < c
-  falls_at c i p = omega (arith, w.falls (c - 1) (omega (arith, p, i.within)))
 
 pub nowhere : (members : List Operator) (f : Operator) (c : ℕ) → IsCandidate members f c → c ≤ 0 → Contains members f → ⊥
 nowhere members f c i l m = let p = place_of members f m in omega (arith, i.all p.0 p.1)

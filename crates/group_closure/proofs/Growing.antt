@@ -21,10 +21,6 @@ use Rattle.group_closure.proofs.Lists.{are_operators, span_more}
 -- ---- one more operator
 
 module _ (old : List Operator) (f : Operator) (new : List Operator) where
-  pub holds_added : Adds old f new → Contains new f
-  holds_added (inl h) = subst (λ v. Contains v f) (sym h.1) h.0
-  holds_added (inr h) = subst (λ v. Contains v f) (sym h.1) (Contains-push old f)
-
   pub extends_added : Adds old f new → Extends old new
   extends_added (inl h) = ([], h.1 ∙ sym (append-nil old))
   extends_added (inr h) = (f ∷ [], h.1)

@@ -12,7 +12,7 @@ use Rattle.std.proofs.lemmas.Option.{slice_get_within, slice_get_read, get_or_fr
 use Rattle.lattice_algebra.specs.Matrix.{Matrix, matrix_of, entries, scaled}
 use Rattle.lattice_algebra.specs.Operator.{Operator}
 use Rattle.group_closure.specs.Order.{operator_cmp}
-use Rattle.group_closure.specs.Runs.{IsRun, AreRunEnds, AreOpposites, GoesOn, HasMatrix, IsFirstWith, IsFirstIfAny}
+use Rattle.group_closure.specs.Runs.{IsRun, AreOpposites, GoesOn, HasMatrix, IsFirstWith, IsFirstIfAny}
 use Rattle.group_closure.proofs.InOrder.{before_later}
 use Rattle.group_closure.proofs.Origins.{one_there}
 use Rattle.group_closure.proofs.Places.{contains_at, some_at}
@@ -279,9 +279,6 @@ module _ (ops : List Operator) (sorted : IsStrictlySortedBy operator_cmp (drop 1
       let g = some_at ops (i + 1) h.1 in
       (subst (λ j. IsRun ops i j) (sym h.2) (run_stops i f.0 g.0 p f.1 g.1 (h.0 f.0 g.0 f.1 g.1)), omega (arith, h.2), omega (arith, h.1, h.2))
 
-  pub ends_none : (ends : List ℕ) → AreEndsFrom ops ends (length ops) (length ops)
-  ends_none ends = record { size = omega arith; last = λ e. refl; here = λ l. absurd (omega arith); ends_run = λ k a b. absurd (omega arith) }
-
   pub ends_more : (ends : List ℕ) (i end e : ℕ) → AreEndsFrom ops ends (i + 1) end → 0 < i → i < length ops → i < length ends → GoesOn ops i end e → AreEndsFrom ops (set ends i e) i e
   ends_more ends i end e w p l m h =
       let r = here_ends ends i end e w p l h in
@@ -297,17 +294,6 @@ module _ (ops : List Operator) (sorted : IsStrictlySortedBy operator_cmp (drop 1
             subst (λ n. IsRun ops n (get_or (set ends i e) n 0) × (n < get_or (set ends i e) n 0) × (get_or (set ends i e) n 0 ≤ length ops)) j
             (subst (λ v. IsRun ops i v × (i < v) × (v ≤ length ops)) (sym (get_or-set_same ends i e 0 m)) r))
             (cases_lt i k);
-      }
-
-  pub ends_all : (ends : List ℕ) (i end : ℕ) → AreEndsFrom ops ends i end → i ≤ 1 → 0 < length ops → 0 < length ends → AreRunEnds ops (set ends 0 1)
-  ends_all ends i end w l m n =
-      let later : (k : ℕ) → 0 < k → k < length ops → IsRun ops k (get_or (set ends 0 1) k 0) × (k < get_or (set ends 0 1) k 0) × (get_or (set ends 0 1) k 0 ≤ length ops) = λ k p h. subst (λ v. IsRun ops k v × (k < v) × (v ≤ length ops)) (sym (get_or-set_other ends 0 k 1 0 (omega arith))) (w.ends_run k (omega arith) h) in
-      let first : get_or (set ends 0 1) 0 0 ≡ 1 = get_or-set_same ends 0 1 0 n in
-      record {
-        first = first;
-        beyond = λ k h. ⊎_elim (λ p. (later k p h).1) (λ p. let j : 0 ≡ k = omega arith in subst (λ v. v < get_or (set ends 0 1) v 0) j (omega (arith, first))) (cases_lt 0 k);
-        within = λ k h. ⊎_elim (λ p. (later k p h).2) (λ p. let j : 0 ≡ k = omega arith in subst (λ v. get_or (set ends 0 1) v 0 ≤ length ops) j (omega (arith, first))) (cases_lt 0 k);
-        run = λ k p h. (later k p h).0;
       }
 
 -- ---- what the code compares: p at place i with the rows t of q behind it

@@ -5,8 +5,7 @@ use Rattle.std.proofs.lemmas.Option.{get_or_from_slice_get, slice_get_within, sl
 use Rattle.std.proofs.lemmas.List.Elements.{All-contains}
 use Rattle.finite_groups.proofs.Basics as basics
 use Rattle.finite_groups.proofs.Closing as closing
-use Rattle.lattice_algebra.specs.Matrix.{◌·◌}
-use Rattle.lattice_algebra.specs.Operator.{Operator, product, inverse, HasEntriesWithin, IsInverse, identity_operator}
+use Rattle.lattice_algebra.specs.Operator.{Operator, product, inverse, IsInverse, identity_operator}
 use Rattle.lattice_algebra.proofs.Operators.{inverse-IsInverse, inverse_once}
 use Rattle.exact_ops.specs.Narrow.{IsNarrow}
 use Rattle.exact_ops.specs.declared.TheConstants.{UNIT}
@@ -65,17 +64,10 @@ other_more members lent f g i e l q n was k d m =
     (λ b h. let same : i ≡ k = omega arith in
     n (sym (get_or_from_slice_get members i g d (found members lent g g i e l q (λ _. g))) ∙ ap (λ j. get_or members j d) same ∙ h)) (cases_lt k i)
 
-pub none_of_all : (members lent : List Operator) (f : Operator) (i : ℕ) → lent ≡ members → length lent ≤ i → AreOther members f i → Contains members f → ⊥
-none_of_all members lent f i e l was c = was c.0 f (omega (arith, c.1, ap length e)) c.2
-
 -- ---- products and inverses of members
 
 pub product_member : (members : List Operator) (f g : Operator) → IsGroup members → Contains members f → Contains members g → Contains members (product UNIT f g)
 product_member members f g p c d = p.closed f g c d
-
-pub product_narrow : (members : List Operator) (f g : Operator) → IsGroup members → Contains members f → Contains members g → HasEntriesWithin 2 (f.w · g.w)
-unfolding product
-product_narrow members f g p c d = (All-contains IsNarrow members (product UNIT f g) p.narrow (p.closed f g c d)).within_two
 
 pub inverse_member : (members : List Operator) (f : Operator) → IsGroup members → Contains members f → Contains members (inverse UNIT f)
 inverse_member members f p c =
@@ -91,12 +83,6 @@ pub inverse_by_product : (members : List Operator) (f g : Operator) → IsGroup 
 inverse_by_product members f g p c d e =
     let at = λ (h : Operator) (m : Contains members h). (All-contains IsNarrow members h p.narrow m).is_operator in
     subst (IsInverse UNIT f) (sym (basics.inverse_once cell_operators f g (at f c) (at g d) e)) (inverse_is members f p c)
-
-pub inverse_narrow : (members : List Operator) (f : Operator) → IsGroup members → Contains members f → HasEntriesWithin 2 (inverse UNIT f).w
-inverse_narrow members f p c = (All-contains IsNarrow members (inverse UNIT f) p.narrow (inverse_member members f p c)).within_two
-
-pub each_inverse_member : (members : List Operator) (f g : Operator) → IsGroup members → Contains members f → IsInverse UNIT f g → Contains members g
-each_inverse_member members f g p c i = subst (Contains members) (inverse_once UNIT f (inverse UNIT f) g (inverse_is members f p c) i) (inverse_member members f p c)
 
 -- ---- runs of members with one matrix
 

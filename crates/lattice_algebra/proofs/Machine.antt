@@ -1,7 +1,7 @@
 -- What the machine computes: sums and products of numbers of fixed width, where each number has a bound.
 -- `size b e` bounds the size of e, where b bounds the variables. `fits` shows that no step of e leaves the width, and `computed` that the machine gets the value of e.
 use Rattle.std.proofs.Common.{◌≡◌, ℕ, zero, suc, ◌+◌, ◌*◌, ◌^◌, ◌≤◌, ◌<◌, Bool, ◌&&◌, ltb, List, [], ◌∷◌, ℤ, ◌+ℤ◌, ◌-ℤ◌, ◌*ℤ◌, neg_ℤ, unsigned_abs, FitsSigned, T, arith, refl, sym, ap, ap₂, ◌∙◌, subst, to_z, of_z, mul-le-mul, le_refl, lt_of_le_of_lt}
-use Rattle.std.proofs.lemmas.Int.{ints, to_z-of_z, unsigned_abs-mul, fits_signed_from_abs}
+use Rattle.std.proofs.lemmas.Int.{to_z-of_z, unsigned_abs-mul, fits_signed_from_abs}
 use Rattle.std.specs.Int.{Width}
 use mir.Val.{hbits}
 use mir.Syntax.{w32}

@@ -33,9 +33,6 @@ module _ (p : Matrix) (small : HasSmallPowers p) (k : ℕ) (m s : Matrix) (was :
   pub narrow_power : HasEntriesWithin 2 m
   narrow_power = subst (HasEntriesWithin 2) (sym was.value) (small.narrow k)
 
-  pub wide_sum : HasEntriesWithin (2 * MAX_OPERATORS) s
-  wide_sum = let l = before_period in let h = was.size in omega arith
-
   module _ (n t : Matrix) (e : n ≡ p · m) (d : t ≡ s +ᵐ m) where
     next_power : n ≡ power p (k + 1)
     next_power = e ∙ ap (λ v. p · v) was.value ∙ sym (power-more p k)

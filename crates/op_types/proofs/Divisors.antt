@@ -1,9 +1,9 @@
 -- Common divisors of the entries of a column, and what is left when it is divided by them.
-use Rattle.std.proofs.Common.{◌≡◌, ◌≢◌, ◌∷◌, [], ℕ, suc, ◌*◌, ◌/◌, ◌^◌, ◌<◌, ◌≤◌, ℤ, pos, negsuc, ◌-ℤ◌, ◌*ℤ◌, neg_ℤ, unsigned_abs, int_div, FitsSigned, w32, to_z, of_z, ap, ap₂, sym, subst, ◌∙◌, refl, arith, le_trans}
+use Rattle.std.proofs.Common.{◌≡◌, ◌≢◌, ◌∷◌, [], ℕ, suc, ◌*◌, ◌^◌, ◌<◌, ◌≤◌, ℤ, pos, negsuc, ◌-ℤ◌, ◌*ℤ◌, neg_ℤ, unsigned_abs, int_div, FitsSigned, w32, to_z, of_z, ap, ap₂, sym, subst, ◌∙◌, refl, arith, le_trans}
 use Rattle.std.specs.Int.{IsGcd, ◌∣◌}
 use Rattle.std.proofs.lemmas.Int.{ints, unsigned_abs-mul, fits_signed_from_abs, to_z-of_z}
 use Rattle.std.proofs.lemmas.Nat.Gcd.{le_of_dvd, dvd_trans}
-use Rattle.std.proofs.Math.Nat.{pos_of_dvd_of_pos, dvd-mul_right, mul-div_cancel', dvd_of_mul-dvd-mul_left, le-mul_of_pos_right}
+use Rattle.std.proofs.Math.Nat.{pos_of_dvd_of_pos, dvd-mul_right, dvd_of_mul-dvd-mul_left, le-mul_of_pos_right}
 use Rattle.lattice_algebra.specs.Matrix.{Column, coordinates, times, origin}
 use Rattle.lattice_algebra.specs.Operator.{AreWithin}
 use Rattle.lattice_algebra.proofs.Ring.{var, con, ◌⊗◌, neg, ring}

@@ -4,7 +4,7 @@ use Rattle.std.specs.Int.{◌∣◌}
 use Rattle.std.proofs.lemmas.Int.{ints}
 use Rattle.std.proofs.lemmas.Nat.Gcd.{dvd_of_mod-eq-zero}
 use Rattle.std.proofs.lemmas.List.Elements.{All-contains}
-use Rattle.lattice_algebra.specs.Matrix.{Matrix, entries, det, scaled, identity, ◌·◌, IsUnimodular}
+use Rattle.lattice_algebra.specs.Matrix.{Matrix, det, scaled, identity, ◌·◌, IsUnimodular}
 use Rattle.lattice_algebra.specs.Operator.{Operator}
 use Rattle.lattice_algebra.specs.Powers.{power, IsOrder}
 use Rattle.lattice_algebra.proofs.Matrices.{identity-·, det-·, det-opposite, IsUnimodular-det, det-identity}

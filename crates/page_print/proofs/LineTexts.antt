@@ -1,5 +1,5 @@
 -- Laws of texts with a line for each element.
-use Rattle.std.proofs.Common.{◌≡◌, ℕ, suc, List, [], ◌∷◌, ◌++◌, Contains, refl, sym, ap₂, subst, append_assoc, arith}
+use Rattle.std.proofs.Common.{◌≡◌, ℕ, suc, List, [], ◌∷◌, ◌++◌, Contains, refl, ap₂, subst, arith}
 use Rattle.std.proofs.lemmas.List.{append-nil}
 use Rattle.page_print.specs.Lines.{AreLines}
 
@@ -7,11 +7,6 @@ module _ {A : Type 0} (IsLine : A → List ℕ → Type 0) where
   -- the lines of one element
   pub one_line : (x : A) (line : List ℕ) → IsLine x line → AreLines IsLine (x ∷ []) line
   one_line x line p = subst (AreLines IsLine (x ∷ [])) (append-nil line) (AreLines.line p AreLines.end)
-
-  -- lines behind lines
-  pub lines_append : (xs ys : List A) (s t : List ℕ) → AreLines IsLine xs s → AreLines IsLine ys t → AreLines IsLine (xs ++ ys) (s ++ t)
-  lines_append [] ys s t AreLines.end q = q
-  lines_append (x ∷ xs) ys s t (AreLines.line {first = first} {text = text} p more) q = subst (AreLines IsLine (x ∷ (xs ++ ys))) (sym (append_assoc first text t)) (AreLines.line p (lines_append xs ys text t more q))
 
   -- where each element has a line, there is such a text
   pub some_lines : (xs : List A) → ((x : A) → Contains xs x → (line : List ℕ) × IsLine x line) → (text : List ℕ) × AreLines IsLine xs text

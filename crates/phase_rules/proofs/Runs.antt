@@ -1,9 +1,8 @@
 -- Runs of members with one rotation part.
-use Rattle.std.proofs.Common.{◌≡◌, ℕ, zero, suc, ◌+◌, ◌-◌, ◌<◌, ◌≤◌, Some, List, length, take, slice_get, ap, sym, ◌∙◌, subst, arith, ⊎_elim, false}
-use Rattle.std.proofs.lemmas.Bool.{cases_lt, false≢true}
+use Rattle.std.proofs.Common.{◌≡◌, ℕ, zero, suc, ◌+◌, ◌-◌, ◌≤◌, Some, List, length, take, slice_get, sym, ◌∙◌, subst, arith, false}
+use Rattle.std.proofs.lemmas.Bool.{false≢true}
 use Rattle.lattice_algebra.specs.Operator.{Operator}
-use Rattle.group_closure.specs.Runs.{IsRun}
-use Rattle.group_closure.proofs.Places.{same_at, some_at, EndsRun, same_matrix}
+use Rattle.group_closure.proofs.Places.{some_at, EndsRun, same_matrix}
 use Rattle.phase_rules.specs.declared.tallies.Turn.{Turn}
 use Rattle.phase_rules.specs.declared.tallies.Tally.{Tally}
 use Rattle.phase_rules.specs.Rows.{Row, ◌·ʳ◌}

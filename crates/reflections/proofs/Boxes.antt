@@ -55,25 +55,6 @@ which_first g h = first (which_less g.h h.h) (which_less g.k h.k) (which_less g.
     first (inr (inl e)) b c = second e b c
     first (inr (inr l)) b c = inr (inr (inl l))
 
-not_less_both : (x y : ℤ) → x <ℤ y → y <ℤ x → ⊥
-not_less_both x y p q = omega (arith, ints)
-
-not_less_same : (x y : ℤ) → x ≡ y → x <ℤ y → ⊥
-not_less_same x y e p = omega (arith, ints)
-
--- no two rows come before each other
-pub not_both_first : (g h : Row) → ComesBefore g h → ComesBefore h g → ⊥
-not_both_first g h (inl p) (inl q) = not_less_both _ _ p q
-not_both_first g h (inl p) (inr q) = not_less_same _ _ q.0 p
-not_both_first g h (inr p) (inl q) = not_less_same _ _ p.0 q
-not_both_first g h (inr p) (inr q) = inner p.1 q.1
-  where
-    inner : (h.k <ℤ g.k) ⊎ ((g.k ≡ h.k) × (h.l <ℤ g.l)) → (g.k <ℤ h.k) ⊎ ((h.k ≡ g.k) × (g.l <ℤ h.l)) → ⊥
-    inner (inl a) (inl b) = not_less_both _ _ a b
-    inner (inl a) (inr b) = not_less_same _ _ b.0 a
-    inner (inr a) (inl b) = not_less_same _ _ a.0 b
-    inner (inr a) (inr b) = not_less_both _ _ a.1 b.1
-
 -- ---- places
 
 module _ (b : Box) where

@@ -1,5 +1,5 @@
 -- What setting tags does to the rows of a box.
-use Rattle.std.proofs.Common.{◌≡◌, ℕ, ◌<◌, ◌≤◌, ◌↔◌, ◌⊎◌, Bool, true, List, length, set, take, get_or, slice_get, Some, inl, inr, ⊎_elim, ap, sym, ◌∙◌, subst, arith, Contains, ℤ, negsuc, length-take}
+use Rattle.std.proofs.Common.{◌≡◌, ℕ, ◌<◌, ◌≤◌, ◌↔◌, ◌⊎◌, Bool, true, List, length, set, take, get_or, slice_get, Some, inl, inr, ⊎_elim, ap, sym, ◌∙◌, subst, arith, Contains, negsuc, length-take}
 use Rattle.std.proofs.lemmas.Bool.{cases_lt}
 use Rattle.std.proofs.lemmas.List.{length-set, take_all, get_or-take}
 use Rattle.std.proofs.lemmas.Option.{slice_get-get_or}

@@ -1,6 +1,6 @@
 -- Finitely many points are enough: each point has, up to an element of the space group, the site-symmetry group of one of them. They are
 -- generic points of all idempotent blocks whose matrix and translation are as small as those of an average near the origin.
-use Rattle.std.proofs.Common.{◌≡◌, ◌<◌, ◌*◌, ◌⊎◌, inl, inr, ⊎_elim, ◌↔◌, ℕ, pos, ◌*ℤ◌, List, length, map, Contains, ap, sym, ◌∙◌, subst, arith, refl}
+use Rattle.std.proofs.Common.{◌≡◌, ◌<◌, ◌*◌, ◌⊎◌, inl, inr, ⊎_elim, ◌↔◌, ℕ, pos, ◌*ℤ◌, List, length, map, Contains, ap, sym, ◌∙◌, subst, refl}
 use Rattle.std.specs.List.{flat_map}
 use Rattle.std.proofs.lemmas.Bool.{cases_Bool, false≢true}
 use Rattle.lattice_algebra.specs.Matrix.{Column, neg_column, ◌+ᶜ◌, times}
@@ -18,7 +18,7 @@ use Rattle.space_groups.specs.Keys.{carried}
 use Rattle.space_groups.proofs.Blocks.{block_path}
 use Rattle.space_groups.proofs.Elements.{SpaceGroup}
 use Rattle.space_groups.proofs.Means as means
-use Rattle.space_groups.proofs.Means.{Averaged, Keeps}
+use Rattle.space_groups.proofs.Means.{Keeps}
 use Rattle.space_groups.proofs.Regions.{shift_in}
 use Rattle.space_groups.proofs.Generic.{mean_within, generic}
 use Rattle.space_groups.proofs.NearOrigin.{near_origin}

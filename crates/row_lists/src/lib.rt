@@ -1,3 +1,3 @@
-//! Every group has one list of rows, and it is the table of its Wyckoff positions: laws alone, for any number of parts of a
-//! cell. It has no code: crates with code cite its proofs.
+//! Every group without an entry beyond 2 has one list of rows, and it is the table of its Wyckoff positions: laws alone, for any
+//! number of parts of a cell. It has no code: crates with code cite its proofs.
 #![tactic(auto)]

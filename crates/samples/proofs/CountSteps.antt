@@ -1,5 +1,5 @@
 -- Counting the points that fit each row, one point after the other.
-use Rattle.std.proofs.Common.{◌≡◌, ◌⊎◌, ◌+◌, ◌<◌, ◌≤◌, ◌↔◌, ℕ, suc, pos, List, length, get_or, set, replicate, refl, sym, ap, subst, ◌∙◌, arith, inl, inr, ⊎_elim, Contains, add-one}
+use Rattle.std.proofs.Common.{◌≡◌, ◌⊎◌, ◌+◌, ◌<◌, ◌≤◌, ℕ, suc, List, length, get_or, set, replicate, sym, ap, subst, ◌∙◌, arith, ⊎_elim, add-one}
 use Rattle.std.proofs.lemmas.Bool.{cases_eq}
 use Rattle.std.proofs.lemmas.Int.{ints}
 use Rattle.std.proofs.lemmas.List.{get_or_default, get_or-set_same, get_or-set_other, length-set, length-replicate, get_or-replicate}

@@ -1,13 +1,13 @@
 -- A test of whether a list is enclosed by a set.
-use Rattle.std.proofs.Common.{◌≡◌, ◌⊎◌, ◌≤◌, ◌&&◌, ◌||◌, ℕ, ℤ, pos, negsuc, unsigned_abs, Bool, true, false, List, [], ◌∷◌, length, refl, sym, subst, arith, leb, ltb, int_eq, All, Contains, inl, inr, ⊎_elim}
+use Rattle.std.proofs.Common.{◌≡◌, ◌⊎◌, ◌&&◌, ◌||◌, ℤ, pos, negsuc, unsigned_abs, Bool, true, false, List, [], ◌∷◌, length, refl, subst, arith, leb, ltb, int_eq, Contains, inl, inr, ⊎_elim}
 use Rattle.std.specs.List.{list_any}
 use Rattle.std.specs.Cmp.{signed_Decides}
 use Rattle.std.proofs.lemmas.Int.{ints}
 use Rattle.std.proofs.lemmas.List.Elements.{Contains-get_or}
 use borrow.Author.Tests.{leb-true, ltb-true}
 use Rattle.finite_groups.proofs.Members as lists
-use Rattle.lattice_algebra.specs.Matrix.{Matrix, Column, IsUnimodular, det}
-use Rattle.lattice_algebra.specs.Operator.{Operator, IsPart, AreParts, AreWithin, HasEntriesWithin, product, identity_operator}
+use Rattle.lattice_algebra.specs.Matrix.{det}
+use Rattle.lattice_algebra.specs.Operator.{Operator, IsPart, AreWithin, product, identity_operator}
 use Rattle.lattice_algebra.proofs.Equality.{operator_eq, contains-is}
 use Rattle.lattice_algebra.proofs.Matrices.{det-IsUnimodular}
 use Rattle.exact_ops.specs.Narrow.{IsNarrow}

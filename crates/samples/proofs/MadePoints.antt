@@ -2,7 +2,7 @@
 use Rattle.std.proofs.Common.{◌≡◌, ◌<◌, ◌*◌, ℕ, ℤ, pos, ◌*ℤ◌, to_z, of_z, ap, subst, ◌∙◌, arith}
 use Rattle.std.specs.Int.{w128}
 use Rattle.std.proofs.lemmas.Int.{ints}
-use Rattle.lattice_algebra.specs.Matrix.{Column, times}
+use Rattle.lattice_algebra.specs.Matrix.{times}
 use Rattle.lattice_algebra.specs.Point.{Point, ◌≈◌}
 use Rattle.exact_ops.specs.declared.TheConstants.{UNIT}
 use Rattle.samples.specs.Points.{next, drawn, point_from}

@@ -1,5 +1,5 @@
 -- Sets of operators that enclose the lists of the samples.
-use Rattle.std.proofs.Common.{◌≡◌, ◌/◌, ◌++◌, ℤ, pos, negsuc, neg_ℤ, true, List, [], ◌∷◌, refl}
+use Rattle.std.proofs.Common.{◌≡◌, ◌/◌, ◌++◌, ℤ, pos, negsuc, true, List, [], ◌∷◌, refl}
 use Rattle.lattice_algebra.specs.Matrix.{Matrix, Column, ◌·◌, ◌·ᶜ◌, ◌+ᶜ◌, det, identity, origin}
 use Rattle.lattice_algebra.specs.Operator.{Operator, product, modulo}
 use Rattle.exact_ops.specs.declared.TheConstants.{UNIT}

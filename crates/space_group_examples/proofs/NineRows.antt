@@ -1,5 +1,5 @@
 -- A worked example: the group of -x,-y,-z has the table of nine rows that International Tables A gives for P-1.
-use Rattle.std.proofs.Common.{◌≡◌, ◌∷◌, ◌++◌, [], zero, suc, ◌≤◌, ◌⊎◌, inl, inr, ⊎_elim, List, length, map, get_or, ℤ, pos, neg_ℤ, negsuc, ◌+ℤ◌, ◌*ℤ◌, ◌≤ℤ◌, ◌<ℤ◌, Contains, All, AllPairs, ap, sym, ◌∙◌, refl, subst, arith, unsigned_abs}
+use Rattle.std.proofs.Common.{◌≡◌, [], ◌∷◌, ◌++◌, zero, suc, ◌≤◌, ◌⊎◌, inl, inr, ⊎_elim, List, length, map, get_or, ℤ, pos, neg_ℤ, negsuc, ◌+ℤ◌, ◌*ℤ◌, ◌≤ℤ◌, ◌<ℤ◌, Contains, All, AllPairs, ap, sym, ◌∙◌, refl, subst, arith, unsigned_abs}
 use Rattle.std.specs.Int.{int_rem_euclid}
 use Rattle.std.proofs.lemmas.Int.{ints}
 use Rattle.std.proofs.lemmas.List.Kept.{AllPairs-cons}
@@ -7,6 +7,7 @@ use Rattle.std.proofs.lemmas.Map.Made.{AllPairs-from_IsDistinct}
 use Rattle.std.proofs.lemmas.List.Elements.{Contains-get_or}
 use Rattle.lattice_algebra.specs.Matrix.{Matrix, Column, scaled, identity, origin, no_matrix, ◌·◌, ◌+ᶜ◌, ◌+ᵐ◌, times, entries, coordinates}
 use Rattle.lattice_algebra.specs.Operator.{Operator, modulo, identity_operator, HasEntriesWithin, AreWithin}
+use Rattle.lattice_algebra.specs.Map.{Map, operator_of}
 use Rattle.lattice_algebra.proofs.Ring.{con}
 use Rattle.lattice_algebra.proofs.MatrixRing.{matrix_at, column_at, ◌·ˢ◌, ◌+ˢ◌, ◌+ˢᶜ◌, sym_scaled, sym_times, sym_nothing, column_ring, matrix_ring}
 use Rattle.lattice_algebra.proofs.Remainders.{modulo_same, rem_is}
@@ -14,15 +15,13 @@ use Rattle.lattice_algebra.proofs.Maps.{shift_of}
 use Rattle.lattice_algebra.proofs.Operators.{operators}
 use Rattle.lattice_algebra.proofs.Examples.{column, minus, inversion, inverting, both, in_both, closed_list, some_parts}
 use Rattle.finite_groups.proofs.Members as lists
-use Rattle.space_groups.specs.Space.{IsMembers, moved}
+use Rattle.space_groups.specs.Space.{IsMembers, ScaledPoint, moved}
 use Rattle.space_groups.specs.Averages.{block_of, block_scaled}
 use Rattle.space_groups.specs.Keys.{Key, key_of, IsBelow, IsKey}
 use Rattle.space_groups.specs.Intervals.{differences}
-use Rattle.space_groups.specs.Tries.{IsSettled}
-use Rattle.space_groups.proofs.Grown.{full_length}
-use Rattle.space_groups.proofs.Tries.{done_from_settled, settled_along}
+use Rattle.space_groups.proofs.Grown.{full_length, grown_along}
 use Rattle.space_groups.specs.Rows.{Row, IsRowBefore, IsTable, IsRowList}
-use Rattle.space_groups.specs.Search.{Kept, IsKept, IsDone, IsSearch, row_of}
+use Rattle.space_groups.specs.Search.{FixAll, Kept, IsKept, HasKeptKey, IsDone, IsSearch, row_of}
 use Rattle.space_groups.proofs.ScaledPoints.{moved-identity}
 use Rattle.space_groups.proofs.Ordered.{row_not_itself, row_on, one_row_list}
 use Rattle.space_groups.proofs.Theorem.{table_of_search, row_list_of_search}
@@ -65,6 +64,18 @@ all_kept : All (IsKept 24 both) kept
 all_kept = of_all (IsKept 24 both) trivial_kept (λ c i. half_kept c)
 
 -- ---- nothing is left to grow
+
+-- each element of f that fixes some point with k generates with k what has a kept key
+abbrev IsSettled : Kept → Operator → Type 0
+IsSettled k f = (e : Map) (y : ScaledPoint) → operator_of 24 e ≡ f → FixAll k.set y → moved e y ≡ y → HasKeptKey 24 both kept k e
+
+done_from_settled : (k : Kept) → ((f : Operator) → Contains both f → IsSettled k f) → IsDone 24 both kept k
+done_from_settled k settled e m y h fix = settled (operator_of 24 e) m e y refl h fix
+
+-- one that turns no direction of the image
+settled_along : (k : Kept) → IsKept 24 both k → (f : Operator) → Contains kept k → differences f.w k.average.m ≡ no_matrix → IsSettled k f
+unfolding operator_of
+settled_along k is_kept f c none e y is h fix = (k, c, grown_along L k e y is_kept (subst (λ w. differences w k.average.m ≡ no_matrix) (ap (λ (v : Operator). v.w) (sym is)) none) h fix)
 
 IsBit : ℤ → Type 0
 IsBit a = (a ≡ o) ⊎ (a ≡ pos 1)
@@ -121,7 +132,7 @@ half_in : (c : Column) → Contains corners c → Contains kept (at_half c)
 half_in c h = lists.Contains-later (at_half c) trivial (map at_half corners) (lists.Contains-map at_half c corners h)
 
 -- with the inversion at c / 2 the identity generates the group of that inversion
-trivial_settled : IsSettled 24 both kept trivial inverting
+trivial_settled : IsSettled trivial inverting
 trivial_settled e y is h f =
     let s = shift_of 24 some_parts inverting e is in
     let c : Column = s.0 in
@@ -147,9 +158,9 @@ unfolding differences ◌·◌ ◌+ᵐ◌ scaled block_scaled block_of
 identity_turns_nothing = refl
 
 trivial_done : IsDone 24 both kept trivial
-trivial_done = done_from_settled L kept trivial trivial_kept (λ f m. ⊎_elim
-    (λ p. subst (IsSettled 24 both kept trivial) p (settled_along L kept trivial trivial_kept identity_operator (lists.Contains-here trivial (map at_half corners)) identity_turns_nothing))
-    (λ p. subst (IsSettled 24 both kept trivial) p trivial_settled)
+trivial_done = done_from_settled trivial (λ f m. ⊎_elim
+    (λ p. subst (IsSettled trivial) p (settled_along trivial trivial_kept identity_operator (lists.Contains-here trivial (map at_half corners)) identity_turns_nothing))
+    (λ p. subst (IsSettled trivial) p trivial_settled)
     (in_both f m))
 
 -- a point has no directions
@@ -158,7 +169,7 @@ unfolding differences ◌·◌ ◌+ᵐ◌ scaled
 no_difference w = matrix_ring (entries w) (sym_nothing +ˢ sym_scaled (con minus) (matrix_at 0 ·ˢ sym_nothing)) sym_nothing tt
 
 half_done : (c : Column) → Contains corners c → IsDone 24 both kept (at_half c)
-half_done c i = done_from_settled L kept (at_half c) (half_kept c) (λ f m. settled_along L kept (at_half c) (half_kept c) f (half_in c i) (no_difference f.w))
+half_done c i = done_from_settled (at_half c) (λ f m. settled_along (at_half c) (half_kept c) f (half_in c i) (no_difference f.w))
 
 all_done : All (IsDone 24 both kept) kept
 all_done = of_all (IsDone 24 both kept) trivial_done half_done

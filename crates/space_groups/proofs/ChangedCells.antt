@@ -1,5 +1,5 @@
 -- A change of the volume of the cell: the changed operators and the changed translations by one cell generate the changed group.
-use Rattle.std.proofs.Common.{◌≡◌, ◌≢◌, ◌++◌, ◌∷◌, [], ℕ, zero, suc, ◌↔◌, inl, inr, ⊎_elim, List, get_or, fold, ℤ, pos, negsuc, neg_ℤ, ◌+ℤ◌, ◌*ℤ◌, Contains, All, ap, ap₂, sym, ◌∙◌, refl, subst}
+use Rattle.std.proofs.Common.{◌≡◌, ◌≢◌, ◌++◌, [], ◌∷◌, ℕ, zero, suc, ◌↔◌, inl, inr, ⊎_elim, List, get_or, fold, ℤ, pos, negsuc, neg_ℤ, ◌+ℤ◌, ◌*ℤ◌, Contains, All, ap, ap₂, sym, ◌∙◌, refl, subst}
 use Rattle.std.proofs.lemmas.List.Elements.{All-contains, All-head, All-tail, Contains-get_or}
 use lib.IntN.{*ℤ_comm}
 use Rattle.lattice_algebra.specs.Matrix.{Matrix, Column, coordinates, ◌·◌, ◌·ᶜ◌, ◌+ᶜ◌, neg_column, times, scaled, identity, origin, det, IsUnimodular}
@@ -21,7 +21,7 @@ use Rattle.space_groups.specs.Bases.{CoordinateChange, IsInvertible, IsChange, I
 use Rattle.space_groups.proofs.Elements.{SpaceGroup, space, unimodular}
 use Rattle.space_groups.proofs.Regions.{shift_in}
 use Rattle.space_groups.proofs.Points.{one_inverse}
-use Rattle.space_groups.proofs.Changes.{one_changed, changed-identity, changed-∘, changed-inverse}
+use Rattle.space_groups.proofs.Changes.{changed-identity, changed-∘, changed-inverse}
 use Rattle.space_groups.proofs.ChangedLists.{shift_between}
 
 -- ---- what holds of all columns
@@ -245,16 +245,6 @@ module _ (L : SpaceGroup) (c : CoordinateChange) (i : IsChange c) where
         let v : IsOperator unit f = All-contains (IsOperator unit) members f closed.valid m in
         let k = shift_between unit some g (map_of f) (sym (operator_of-map unit some f v)) in
         subst IsReached (sym k.1) (reached_product (shift_by unit k.0) (map_of f) (shifts_reached k.0) (generator_reached (map_of f) (gens.each f m)))
-
-    -- the list generates exactly the operators of the changed group
-    pub span_is : (f : Operator) → Span F list f ↔ IsOfChanged f
-    span_is f = (
-      (λ s. of_span f s),
-      (λ p.
-          let r : IsInChanged unit members c p.0 = p.1 in
-          let k = reached r.from r.element in
-          subst (Span F list) (ap (operator_of unit) (one_changed c i r.from k.0 p.0 k.1 r.changed) ∙ p.2) k.2),
-    )
 
     -- so a list of what it generates is one of the changed group
     pub generated_group : IsCell unit members c → (changed : List Operator) → ((f : Operator) → Contains changed f ↔ Span F list f) → IsChangedGroup unit members c changed

@@ -1,7 +1,7 @@
 -- The space group that a change of coordinates makes of another: its site-symmetry groups, and conjugate points.
-use Rattle.std.proofs.Common.{◌≡◌, ℕ, ◌↔◌, List, Contains, subst, sym}
+use Rattle.std.proofs.Common.{◌≡◌, ℕ, ◌↔◌, List, subst, sym}
 use Rattle.lattice_algebra.specs.Operator.{Operator}
-use Rattle.lattice_algebra.specs.Map.{Map, ◌∘◌, undo, AreInverse, operator_of}
+use Rattle.lattice_algebra.specs.Map.{Map, ◌∘◌, undo, AreInverse}
 use Rattle.lattice_algebra.specs.Point.{Point}
 use Rattle.space_groups.specs.Space.{IsElement, IsInSite, AreConjugate}
 use Rattle.space_groups.specs.Bases.{CoordinateChange, IsChange, IsBasisChange, IsChanged, IsInChanged, IsChangedGroup, changed_point, changed_map}
@@ -22,13 +22,6 @@ changed_exactly unit members c changed i e h = (
   (λ m. e.only h m),
   (λ k. let r = e.each k.from k.element in subst (IsElement unit changed) (one_changed c i k.from r.0 h r.2 k.changed) r.1),
 )
-
--- a list of the same operators is one of the same changed group
-pub same_changed_group : (unit : ℕ) (members : List Operator) (c : CoordinateChange) (xs ys : List Operator) → ((f : Operator) → Contains xs f ↔ Contains ys f) → IsChangedGroup unit members c xs → IsChangedGroup unit members c ys
-same_changed_group unit members c xs ys same e = record {
-  each = λ g m. let r = e.each g m in (r.0, (same (operator_of unit r.0)).0 r.1, r.2);
-  only = λ h m. e.only h ((same (operator_of unit h)).1 m);
-}
 
 module _ (L : SpaceGroup) (c : CoordinateChange) (i : IsChange c) (changed : List Operator) (e : IsChangedGroup L.unit L.members c changed) where
   open L use {unit, some, members, closed}

@@ -2,9 +2,8 @@
 use Rattle.std.proofs.Common.{◌≡◌, ◌++◌, ◌∷◌, ℕ, ◌*◌, ◌<◌, ◌↔◌, List, length, map, get_or, ℤ, pos, ◌*ℤ◌, Contains, All, AllPairs, ap, ap₂, sym, ◌∙◌, subst, arith}
 use Rattle.std.proofs.lemmas.List.{length-map}
 use Rattle.std.proofs.lemmas.List.Elements.{Contains-get_or, All-contains}
-use Rattle.std.proofs.lemmas.Map.Made.{AllPairs-from_IsDistinct}
 use Rattle.lattice_algebra.specs.Matrix.{Matrix, Column, coordinates, ◌·◌, ◌·ᶜ◌, ◌+ᶜ◌, times, identity, origin, IsUnimodular, inverse_matrix}
-use Rattle.lattice_algebra.specs.Operator.{Operator, IsOperator, product, HasEntriesWithin}
+use Rattle.lattice_algebra.specs.Operator.{Operator, IsOperator, product}
 use Rattle.lattice_algebra.specs.Map.{Map, ◌∘◌, identity_map, operator_of, map_of}
 use Rattle.lattice_algebra.specs.Point.{Point, IsPoint, ◌≈◌, image}
 use Rattle.lattice_algebra.proofs.MatrixRing.{column_at, ◌·ˢᶜ◌, ◌+ˢᶜ◌, sym_times, sym_identity, sym_origin, column_ring}
@@ -17,7 +16,7 @@ use Rattle.lattice_algebra.proofs.Operators.{operators, one_is}
 use Rattle.finite_groups.specs.Groups.{Group}
 use Rattle.finite_groups.specs.Words.{IsClosedList}
 use Rattle.finite_groups.proofs.Members as lists
-use Rattle.space_groups.specs.Space.{IsMembers, IsElement}
+use Rattle.space_groups.specs.Space.{IsElement}
 use Rattle.space_groups.specs.Lists.{IsSiteList, IsOrbitList}
 use Rattle.space_groups.specs.Regions.{shift_by}
 use Rattle.space_groups.specs.Bases.{CoordinateChange, IsChange, IsBasisChange, IsChanged, IsInChanged, IsChangedGroup, changed_point, changed_map, changed_operator}
@@ -145,16 +144,6 @@ module _ (L : SpaceGroup) (c : CoordinateChange) (b : IsBasisChange c) where
           element = (space L).mul_in F G (member_map L x.0 x.1) (member_map L y.0 y.1);
           changed = changed-∘ c F G (changed_map c F) (changed_map c G) (changed_map-is c b F) (changed_map-is c b G);
         }));
-  }
-
-  -- and a list of members, where none has an entry beyond 2
-  pub changed_members : ((f : Operator) → Contains members f → HasEntriesWithin 2 (changed_operator unit c f).w) → IsMembers unit changed_list
-  changed_members narrow = record {
-    operators = changed_closed.valid;
-    once = AllPairs-from_IsDistinct (operators unit some).same changed_list changed_closed.distinct;
-    identity = changed_closed.has_one;
-    products = changed_closed.closed;
-    narrow = λ f p. let x = lists.Contains-from_map (changed_operator unit c) f members p in subst (λ a. HasEntriesWithin 2 a.w) x.2 (narrow x.0 x.1);
   }
 
   pub as_many : length changed_list ≡ length members

@@ -4,7 +4,7 @@ use Rattle.lattice_algebra.specs.Matrix.{Matrix, Column, entries, coordinates, �
 use Rattle.lattice_algebra.specs.Operator.{modulo}
 use lib.IntN.{*ℤ-zero}
 use Rattle.lattice_algebra.proofs.Ring.{Expr, var, con, ◌⊗◌}
-use Rattle.lattice_algebra.proofs.Matrices.{·_assoc, ·ᶜ_assoc}
+use Rattle.lattice_algebra.proofs.Matrices.{·_assoc}
 use Rattle.lattice_algebra.proofs.MatrixRing.{SymMatrix, SymColumn, matrix_at, column_at, ◌·ˢ◌, ◌·ˢᶜ◌, ◌+ˢᶜ◌, sym_times, sym_neg, sym_scaled, sym_identity, column_ring, matrix_ring}
 use Rattle.lattice_algebra.proofs.Remainders.{modulo_parts, whole_part}
 use Rattle.lattice_algebra.proofs.Numbers.{positive_product, some_size, cancel_some}
@@ -60,21 +60,6 @@ all_columns m r q n e =
 
 some_product : (a b : ℤ) → a ≢ pos 0 → b ≢ pos 0 → a *ℤ b ≢ pos 0
 some_product a b p q e = q (cancel_some a b (pos 0) p (e ∙ sym (*ℤ-zero a)))
-
--- the multiples of all three columns
-pub spans_by_all_columns : (a : Block) (q : Column) (r : Matrix) → pos 0 <ℤ a.n → block_times a a ≡ block_scaled a.n a → AreWholeColumns q r a → q.x ≢ pos 0 → q.y ≢ pos 0 → q.z ≢ pos 0 → SpansImage a r
-spans_by_all_columns a q r p two whole x y z =
-    spans_by_columns a q r (diagonal (others a.n q)) (q.x *ℤ q.y *ℤ q.z) p two whole (some_product (q.x *ℤ q.y) q.z (some_product q.x q.y x y) z) (all_columns a.m r q a.n whole)
-
-scaled_column : (r : Matrix) (z : Column) (u n : ℤ) → times (u *ℤ n) (r ·ᶜ z) ≡ times u (scaled n r ·ᶜ z)
-unfolding ◌·ᶜ◌ times scaled
-scaled_column r z u n = column_ring (u ∷ n ∷ (entries r ++ coordinates z)) (sym_times (var 0 ⊗ var 1) (matrix_at 2 ·ˢᶜ column_at 11)) (sym_times (var 0) (sym_scaled (var 1) (matrix_at 2) ·ˢᶜ column_at 11)) tt
-
--- for multiples of columns the first cell has the points M z + t, with each coordinate of z from 0 to below that of q
-pub cell_by_columns : (unit : ℕ) (a : Block) (q : Column) (r : Matrix) (y : ScaledPoint) → AreWholeColumns q r a → (c : IsInFirstCell unit a r y)
-    → times (a.n *ℤ pos c.over) y.n ≡ times (pos y.d *ℤ pos c.over) a.t +ᶜ times (pos unit *ℤ pos y.d) (a.m ·ᶜ (diagonal q ·ᶜ c.at))
-cell_by_columns unit a q r y whole c =
-    c.equal ∙ ap (λ v. times (pos y.d *ℤ pos c.over) a.t +ᶜ v) (scaled_column r c.at (pos unit *ℤ pos y.d) a.n ∙ ap (λ m. times (pos unit *ℤ pos y.d) (m ·ᶜ c.at)) (sym whole) ∙ ap (times (pos unit *ℤ pos y.d)) (·ᶜ_assoc a.m (diagonal q) c.at))
 
 -- ---- whole shifts along the image leave the average as it is
 

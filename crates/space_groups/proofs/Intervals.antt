@@ -1,38 +1,22 @@
 -- An element that fixes a point of the first cell of an image has its whole shift in the intervals of its operator.
-use Rattle.std.proofs.Common.{◌≡◌, ◌++◌, ◌∷◌, [], ℕ, ◌<◌, ℤ, pos, ◌+ℤ◌, ◌*ℤ◌, neg_ℤ, ◌<ℤ◌, ◌≤ℤ◌, negsuc, ap, ap₂, sym, ◌∙◌, refl, subst, arith}
-use Rattle.std.specs.Int.{int_min, int_max, int_div_euclid}
+use Rattle.std.proofs.Common.{◌≡◌, ◌++◌, [], ◌∷◌, ℕ, ◌<◌, ℤ, pos, ◌+ℤ◌, ◌*ℤ◌, ◌<ℤ◌, ◌≤ℤ◌, negsuc, ap, ap₂, sym, ◌∙◌, refl, subst, arith}
+use Rattle.std.specs.Int.{int_min, int_max}
 use Rattle.std.proofs.lemmas.Int.{ints, int_min_is, int_max_is}
 use lib.IntN.{*ℤ_comm}
 use Rattle.lattice_algebra.specs.Matrix.{Matrix, Column, entries, coordinates, ◌·◌, ◌·ᶜ◌, ◌+ᶜ◌, ◌+ᵐ◌, neg_column, times, scaled, no_matrix}
 use Rattle.lattice_algebra.specs.Operator.{Operator, IsPart}
-use Rattle.lattice_algebra.proofs.Ring.{one_times, var, con, ◌⊕◌, ◌⊗◌, ring}
-use Rattle.lattice_algebra.proofs.MatrixRing.{matrix_at, column_at, ◌·ˢ◌, ◌·ˢᶜ◌, ◌+ˢ◌, ◌+ˢᶜ◌, sym_times, sym_neg, sym_scaled, sym_nothing, column_ring, matrix_ring}
+use Rattle.lattice_algebra.proofs.Ring.{var, con, ◌⊕◌, ◌⊗◌, ring}
+use Rattle.lattice_algebra.proofs.MatrixRing.{matrix_at, column_at, ◌·ˢ◌, ◌·ˢᶜ◌, ◌+ˢ◌, ◌+ˢᶜ◌, sym_times, sym_neg, sym_scaled, sym_nothing, column_ring}
 use Rattle.lattice_algebra.specs.Map.{Map}
 use Rattle.lattice_algebra.proofs.Maps.{shifted}
 use Rattle.lattice_algebra.proofs.Numbers.{above, more_at_most, least_product, greatest_product, cancel_at_most}
 use Rattle.lattice_algebra.proofs.Points.{positive_times}
-use Rattle.lattice_algebra.proofs.Remainders.{quotients, quotient_least, quotient_greatest}
 use Rattle.lattice_algebra.proofs.Columns.{cancel_column}
 use Rattle.space_groups.specs.Space.{ScaledPoint, moved}
 use Rattle.space_groups.specs.Averages.{Block, IsInImage}
-use Rattle.space_groups.specs.Regions.{diagonal, AreWholeColumns, IsInFirstCell}
-use Rattle.space_groups.proofs.FirstCell.{sym_diagonals}
+use Rattle.space_groups.specs.Regions.{IsInFirstCell}
 use Rattle.space_groups.proofs.ScaledPoints.{scaled_path}
 use Rattle.space_groups.specs.Intervals.{differences, base_shift, sum_below, sum_above, sums_below, sums_above, lowest, highest, IsBetween}
-
--- for multiples of columns, n (I - W) r is (I - W) M with its columns multiplied
-pub differences_by_columns : (a : Block) (q : Column) (r w : Matrix) → AreWholeColumns q r a → scaled a.n (differences w r) ≡ differences w a.m · diagonal q
-unfolding ◌·◌ ◌+ᵐ◌ scaled differences diagonal
-differences_by_columns a q r w whole =
-    let N = var 0 in
-    let Q = sym_diagonals (column_at 1) in
-    let R = matrix_at 4 in
-    let M = matrix_at 13 in
-    let W = matrix_at 22 in
-    let e = a.n ∷ (coordinates q ++ (entries r ++ (entries a.m ++ entries w))) in
-    let less = sym_scaled (con (negsuc 0)) in
-    matrix_ring e (sym_scaled N (R +ˢ less (W ·ˢ R))) (sym_scaled N R +ˢ less (W ·ˢ sym_scaled N R)) tt ∙ ap (λ m. m +ᵐ scaled (negsuc 0) (w · m)) (sym whole)
-    ∙ matrix_ring e (M ·ˢ Q +ˢ less (W ·ˢ (M ·ˢ Q))) ((M +ˢ less (W ·ˢ M)) ·ˢ Q) tt
 
 -- ---- the shift of an element that fixes t + r z
 
@@ -133,14 +117,6 @@ shift_is_between unit a r f s y hu hn cell fix =
       y = coordinate g b.y m.yx m.yy m.yz z.x z.y z.z s.y cell.over hg (ap (λ (c : Column). c.y) e) p.x p.y p.z;
       z = coordinate g b.z m.zx m.zy m.zz z.x z.y z.z s.z cell.over hg (ap (λ (c : Column). c.z) e) p.x p.y p.z;
     }
-
--- the whole numbers of the intervals: from the least quotient to the greatest
-pub between_quotients : (g : ℕ) → 0 < g → (low high s : Column) → IsBetween (pos g) low high s → IsBetween (pos 1) (neg_column (quotients g (neg_column low))) (quotients g high) s
-unfolding quotients neg_column
-between_quotients g h low high s b = record { x = at low.x high.x s.x b.x; y = at low.y high.y s.y b.y; z = at low.z high.z s.z b.z }
-  where
-    at : (l u s : ℤ) → (l ≤ℤ (pos g *ℤ s)) × ((pos g *ℤ s) ≤ℤ u) → (neg_ℤ (int_div_euclid (neg_ℤ l) (pos g)) ≤ℤ (pos 1 *ℤ s)) × ((pos 1 *ℤ s) ≤ℤ int_div_euclid u (pos g))
-    at l u s p = (subst (λ v. neg_ℤ (int_div_euclid (neg_ℤ l) (pos g)) ≤ℤ v) (sym (one_times s)) (quotient_least g h l s p.0), subst (λ v. v ≤ℤ int_div_euclid u (pos g)) (sym (one_times s)) (quotient_greatest g h u s p.1))
 
 -- ---- an operator that turns no direction of the image
 

@@ -1,22 +1,21 @@
 -- Which elements are enough to find the key of an average: those of each operator whose whole shifts are below the numbers that make
 -- the columns of the conjugate matrix whole.
-use Rattle.std.proofs.Common.{◌≡◌, ◌++◌, ◌∷◌, [], ℕ, ◌*◌, ◌<◌, ℤ, pos, ◌+ℤ◌, ◌*ℤ◌, neg_ℤ, Contains, ap, ap₂, sym, ◌∙◌, refl, subst}
+use Rattle.std.proofs.Common.{◌≡◌, ◌++◌, ◌∷◌, [], ℕ, ◌*◌, ◌<◌, ℤ, pos, ◌+ℤ◌, ◌*ℤ◌, neg_ℤ, Contains, ap, sym, ◌∙◌, refl, subst}
 use Rattle.std.proofs.lemmas.List.Elements.{All-contains}
 use Rattle.std.specs.Int.{int_div_euclid, int_rem_euclid}
 use Rattle.lattice_algebra.specs.Matrix.{Matrix, Column, entries, coordinates, identity, ◌·◌, ◌·ᶜ◌, ◌+ᶜ◌, neg_column, times, scaled}
-use Rattle.lattice_algebra.specs.Operator.{Operator, IsOperator, IsPart, modulo}
+use Rattle.lattice_algebra.specs.Operator.{Operator, IsOperator, IsPart}
 use Rattle.lattice_algebra.specs.Map.{Map, ◌∘◌, map_of, operator_of}
 use Rattle.lattice_algebra.proofs.Ring.{var, con, neg, known, ◌⊕◌, ◌⊗◌, ring_from}
 use Rattle.lattice_algebra.proofs.MatrixRing.{matrix_at, column_at, ◌·ˢ◌, ◌·ˢᶜ◌, ◌+ˢᶜ◌, sym_times, sym_neg, sym_scaled, sym_identity, column_ring}
 use Rattle.lattice_algebra.proofs.Matrices.{identity-·}
 use Rattle.lattice_algebra.proofs.Maps.{map_path, shifted, operator_of-map}
 use Rattle.lattice_algebra.proofs.Remainders.{modulo_same, quotient_is, rem_is, whole_part}
-use Rattle.lattice_algebra.proofs.Numbers.{positive_product}
 use Rattle.space_groups.specs.Space.{IsElement}
 use Rattle.space_groups.specs.Averages.{Block}
 use Rattle.space_groups.specs.Regions.{shift_by, diagonal, AreWholeColumns}
 use Rattle.space_groups.specs.Keys.{carried, Key, key_of, ComesBefore, IsKey}
-use Rattle.space_groups.proofs.Elements.{SpaceGroup, space}
+use Rattle.space_groups.proofs.Elements.{SpaceGroup}
 use Rattle.space_groups.proofs.Carried.{carried-∘}
 use Rattle.space_groups.proofs.Regions.{shift_in}
 use Rattle.space_groups.proofs.FirstCell.{sym_diagonals}

@@ -1,18 +1,17 @@
 -- Keys: two averages have one key exactly where an element carries the image of one onto that of the other.
-use Rattle.std.proofs.Common.{◌≡◌, ◌++◌, ◌∷◌, [], ℕ, ◌*◌, ◌<◌, inl, inr, ⊎_elim, ◌↔◌, List, ℤ, pos, ◌*ℤ◌, Contains, ap, ap₂, sym, ◌∙◌, refl, subst}
+use Rattle.std.proofs.Common.{◌≡◌, ◌++◌, ◌∷◌, [], ℕ, ◌*◌, ◌<◌, inl, inr, ⊎_elim, ◌↔◌, List, ℤ, pos, ◌*ℤ◌, ap, ap₂, sym, ◌∙◌, refl}
 use Rattle.lattice_algebra.specs.Matrix.{Matrix, Column, entries, coordinates, ◌·◌, ◌·ᶜ◌, ◌+ᶜ◌, neg_column, times, scaled, origin, det, adjugate, matrix_of, column_of}
-use Rattle.lattice_algebra.specs.Operator.{Operator, modulo, AreParts}
-use Rattle.lattice_algebra.specs.Map.{Map, ◌∘◌, undo, operator_of}
+use Rattle.lattice_algebra.specs.Map.{Map, ◌∘◌, undo}
 use Rattle.lattice_algebra.proofs.Ring.{var, con, ◌⊗◌}
-use Rattle.lattice_algebra.proofs.MatrixRing.{SymColumn, matrix_at, column_at, ◌·ˢ◌, ◌·ˢᶜ◌, ◌+ˢᶜ◌, sym_times, sym_neg, sym_scaled, sym_identity, sym_origin, column_ring}
-use Rattle.lattice_algebra.proofs.Remainders.{modulo_is, modulo_same, modulo_parts, whole_part}
-use Rattle.lattice_algebra.proofs.Maps.{map_path, shifted, join_shifts}
+use Rattle.lattice_algebra.proofs.MatrixRing.{SymColumn, matrix_at, column_at, ◌·ˢ◌, ◌·ˢᶜ◌, ◌+ˢᶜ◌, sym_times, sym_neg, sym_identity, sym_origin, column_ring}
+use Rattle.lattice_algebra.proofs.Remainders.{modulo_is, modulo_same}
+use Rattle.lattice_algebra.proofs.Maps.{map_path}
 use Rattle.lattice_algebra.proofs.Numbers.{above, positive_product}
 use Rattle.lattice_algebra.proofs.Columns.{cancel_column, difference}
 use Rattle.finite_groups.proofs.Keys as first
 use Rattle.space_groups.specs.Space.{IsElement, ScaledPoint, moved}
 use Rattle.space_groups.specs.Averages.{Block, block_of, block_times, block_scaled, IsInImage}
-use Rattle.space_groups.specs.Regions.{IsWhole, shift_by}
+use Rattle.space_groups.specs.Regions.{shift_by}
 use Rattle.space_groups.specs.Keys.{carried, Key, key_of, IsBelow, ComesBefore, IsKey}
 use Rattle.space_groups.proofs.BlockRing.{SymBlock, Values, block_at, ◌·ˢᵇ◌, block_value, block_ring}
 use Rattle.space_groups.proofs.Blocks.{block_path, translation_part}

@@ -41,4 +41,3 @@ pub mod OneOperator
 pub mod NearOrigin
 pub mod ShiftSizes
 pub mod Grown
-pub mod Tries

@@ -9,7 +9,6 @@ use Rattle.lattice_algebra.proofs.Numbers.{above, positive_product, cancel_numbe
 use Rattle.finite_groups.specs.Groups.{Representation}
 use Rattle.finite_groups.specs.Words.{IsClosedList}
 use Rattle.finite_groups.proofs.Totals.{total}
-use Rattle.finite_groups.proofs.Averages.{copies}
 use Rattle.finite_groups.proofs.Averages as averages
 use Rattle.space_groups.specs.Space.{ScaledPoint, moved}
 use Rattle.space_groups.specs.Averages.{Block, Vector, block_of, block_plus, block_times, block_scaled, block_on, vector_scaled, sum_of, IsMean, IsInImage}

@@ -1,15 +1,13 @@
 -- The whole shift of an element that fixes a point of the first cell of an image reaches no end of its intervals but the base.
-use Rattle.std.proofs.Common.{◌≡◌, ◌≢◌, ◌++◌, ◌∷◌, [], ℕ, zero, suc, ◌<◌, ℤ, pos, negsuc, ◌+ℤ◌, ◌-ℤ◌, ◌*ℤ◌, ◌≤ℤ◌, ◌<ℤ◌, ap, sym, ◌∙◌, subst, arith, ⊎_elim}
+use Rattle.std.proofs.Common.{◌≡◌, ◌≢◌, ◌∷◌, [], ℕ, zero, suc, ◌<◌, ℤ, pos, negsuc, ◌+ℤ◌, ◌-ℤ◌, ◌*ℤ◌, ◌≤ℤ◌, ◌<ℤ◌, ap, sym, subst, arith, ⊎_elim}
 use Rattle.std.specs.Int.{int_min, int_max, int_signum}
 use Rattle.std.proofs.lemmas.Int.{ints, int_min_is, int_max_is}
-use Rattle.lattice_algebra.specs.Matrix.{Matrix, Column, entries, coordinates, ◌·◌, ◌·ᶜ◌, ◌+ᶜ◌, ◌+ᵐ◌, neg_column, times, scaled}
+use Rattle.lattice_algebra.specs.Matrix.{Matrix, Column, ◌·◌, ◌·ᶜ◌, ◌+ᶜ◌, times}
 use Rattle.lattice_algebra.specs.Operator.{Operator, IsPart}
 use Rattle.lattice_algebra.proofs.Ring.{known, var, con, neg, ◌⊕◌, ◌⊖◌, ◌⊗◌, ring, ring_from}
-use Rattle.lattice_algebra.proofs.MatrixRing.{matrix_at, column_at, ◌·ˢ◌, ◌·ˢᶜ◌, ◌+ˢ◌, ◌+ˢᶜ◌, sym_times, sym_neg, sym_scaled, column_ring}
 use Rattle.lattice_algebra.proofs.Maps.{shifted}
-use Rattle.lattice_algebra.proofs.Numbers.{above, cancel_number, zero_or_other, least_product, greatest_product}
+use Rattle.lattice_algebra.proofs.Numbers.{cancel_number, zero_or_other, least_product, greatest_product}
 use Rattle.lattice_algebra.proofs.Points.{positive_times}
-use Rattle.lattice_algebra.proofs.Columns.{cancel_column}
 use Rattle.space_groups.specs.Space.{ScaledPoint, moved}
 use Rattle.space_groups.specs.Averages.{Block}
 use Rattle.space_groups.specs.Regions.{IsInFirstCell}

@@ -1,5 +1,5 @@
 -- How large the whole shifts are that a search has to try.
-use Rattle.std.proofs.Common.{◌≡◌, ◌∷◌, [], ℕ, ◌+◌, ◌*◌, ◌<◌, ◌≤◌, ℤ, pos, negsuc, ◌+ℤ◌, ◌*ℤ◌, ◌≤ℤ◌, neg_ℤ, unsigned_abs, ap, sym, ◌∙◌, subst, arith, mul-le-mul, le_refl}
+use Rattle.std.proofs.Common.{◌≡◌, [], ◌∷◌, ℕ, ◌+◌, ◌*◌, ◌<◌, ◌≤◌, ℤ, pos, negsuc, ◌+ℤ◌, ◌*ℤ◌, ◌≤ℤ◌, neg_ℤ, unsigned_abs, ap, sym, ◌∙◌, subst, arith, mul-le-mul, le_refl}
 use Rattle.std.specs.Int.{int_min, int_max}
 use Rattle.std.proofs.lemmas.Int.{ints, unsigned_abs-mul, int_min_is, int_max_is}
 use native.Mathlib.Nat.{le_of_mul-le-mul_left}
@@ -141,10 +141,3 @@ shifts_within unit n c b a r f s hu hn number t k w p between =
     let ends = ends_within unit n c b a r f number t k w p in
     between_within (unit * n) (7 * c + 21 * b + 1) (lowest unit a r f) (highest unit a r f) s (positive_product unit n hu hn) ends.0 ends.1
     (subst (λ v. IsBetween (pos unit *ℤ v) (lowest unit a r f) (highest unit a r f) s) number between)
-
--- for an average over at most 192 with a translation of up to 7 cells, and multiples of its columns by up to 192: at most 8114
-pub shifts_small : (unit n : ℕ) (a : Block) (q : Column) (r : Matrix) (f : Operator) (s : Column) → 0 < unit → 0 < n → n ≤ 192 → a.n ≡ pos n → HasEntriesWithin (n * 2) a.m → AreWithin (unit * n * 7) a.t.x a.t.y a.t.z
-    → AreWholeColumns q r a → AreWithin n q.x q.y q.z → HasEntriesWithin 2 f.w → AreParts unit f.t → IsBetween (pos unit *ℤ a.n) (lowest unit a r f) (highest unit a r f) s → AreWithin 8114 s.x s.y s.z
-shifts_small unit n a q r f s hu hn few number m t whole small w p between =
-    let h = shifts_within unit n 7 (n * 2) a r f s hu hn number t (columns_within n n a q r hn number whole m small) w p between in
-    record { first = omega (arith, h.first); second = omega (arith, h.second); third = omega (arith, h.third) }

@@ -6,5 +6,4 @@ pub mod Intervals
 pub mod Keys
 pub mod Rows
 pub mod Search
-pub mod Tries
 pub mod Bases

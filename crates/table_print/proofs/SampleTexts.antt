@@ -1,5 +1,5 @@
 -- The text of a sample, piece by piece.
-use Rattle.std.proofs.Common.{◌≡◌, ℕ, List, [], ◌∷◌, ◌++◌, ap, sym, ◌∙◌, append_assoc}
+use Rattle.std.proofs.Common.{◌≡◌, ℕ, List, [], ◌∷◌, ◌++◌, append_assoc}
 use Rattle.triplet_text.specs.Bytes.{space, line_feed}
 
 -- a row, a space and a count, and the end of the line

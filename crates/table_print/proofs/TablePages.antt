@@ -1,5 +1,5 @@
 -- Printing a table, part by part.
-use Rattle.std.proofs.Common.{◌≡◌, ℕ, List, [], ◌++◌, Result, Ok, Err, refl, sym, ◌∙◌}
+use Rattle.std.proofs.Common.{◌≡◌, ℕ, List, [], Result, Ok, Err, refl, sym, ◌∙◌}
 use Rattle.lattice_algebra.specs.Operator.{Operator}
 use Rattle.group_closure.specs.GroupList.{IsGroup}
 use Rattle.space_groups.specs.Rows.{Row}

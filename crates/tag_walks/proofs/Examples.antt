@@ -1,5 +1,5 @@
 -- Worked examples: the definitions for the numbers 0, 1 and 2, equivalent where both are even or both odd; nothing cites these.
-use Rattle.std.proofs.Common.{◌≡◌, ◌≢◌, ◌<◌, ◌≤◌, ◌%◌, ◌↔◌, ℕ, zero, suc, Bool, true, false, List, [], ◌∷◌, get_or, sum_by, inl, inr, ⊎_elim, All, Contains, ap, sym, ◌∙◌, subst, refl, arith}
+use Rattle.std.proofs.Common.{◌≡◌, ◌≢◌, ◌<◌, ◌≤◌, ◌%◌, ◌↔◌, ℕ, zero, suc, Bool, true, false, List, [], ◌∷◌, get_or, sum_by, ⊎_elim, Contains, ap, sym, ◌∙◌, subst, refl, arith}
 use Rattle.std.proofs.lemmas.Bool.{false≢true, true≢false}
 use Rattle.std.proofs.lemmas.List.Kept.{AllPairs-cons}
 use Rattle.std.proofs.lemmas.List.Elements.{All-from_recursion}

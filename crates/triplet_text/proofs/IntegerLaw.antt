@@ -9,7 +9,7 @@ use Rattle.std.proofs.lemmas.Bool.{cases_lt, le-leb}
 use Rattle.std.proofs.lemmas.Bool.Decides.{nat_tests}
 use borrow.Author.Tests.{eqb-true, leb-true}
 use Rattle.triplet_text.specs.Bytes.{plus_sign, minus_sign, is_digit}
-use Rattle.triplet_text.specs.Coordinates.{AreDigits, number_of}
+use Rattle.triplet_text.specs.Coordinates.{number_of}
 use Rattle.triplet_text.specs.Digits.{with_digits}
 use Rattle.triplet_text.specs.Grammar.{value_of}
 use Rattle.triplet_text.specs.Integers.{IsNatural, IsInteger, bare, plus, minus}

@@ -14,7 +14,7 @@ use Rattle.group_closure.proofs.Lists.{are_operators}
 use Rattle.space_groups.specs.Space.{IsMembers}
 use Rattle.space_groups.specs.Averages.{Block}
 use Rattle.space_groups.specs.Rows as shown
-use Rattle.space_groups.specs.Rows.{IsRowBefore, IsTable, IsRowList}
+use Rattle.space_groups.specs.Rows.{IsRowList}
 use Rattle.space_groups.specs.Search.{IsKept, IsDone, IsSearch, row_of}
 use Rattle.space_groups.proofs.Theorem.{table_of_search, row_list_of_search}
 use Rattle.affine_sets.specs.declared.TheConstants.{MAX_GROWN_SHIFT, MAX_NEAR_SHIFT}

@@ -1,6 +1,5 @@
 -- Averages that were met, and what is kept for an average.
-use Rattle.std.proofs.Common.{◌≡◌, ◌≢◌, ◌<◌, ◌*◌, ◌/◌, ℕ, pos, false, List, [], ◌∷◌, ◌++◌, length, get_or, Contains, refl, ap, sym, ◌∙◌, subst, arith, ⊎_elim}
-use Rattle.std.proofs.lemmas.Bool.{false≢true}
+use Rattle.std.proofs.Common.{◌≡◌, ◌≢◌, ◌<◌, ◌*◌, ◌/◌, ℕ, pos, List, [], ◌∷◌, ◌++◌, length, get_or, Contains, ap, sym, ◌∙◌, subst, arith, ⊎_elim}
 use Rattle.std.proofs.lemmas.Map.Made.{IsDistinct-from_AllPairs}
 use Rattle.std.proofs.lemmas.List.Elements.{All-contains, All-cons, All-append, Contains-get_or, Contains-append_left, Contains-append_cases}
 use Rattle.lattice_algebra.specs.Operator.{Operator}
@@ -28,7 +27,7 @@ use Rattle.space_groups.proofs.CarriedLists.{key_carried}
 use Rattle.affine_sets.specs.Averages.{KeyOver}
 use Rattle.affine_sets.specs.Subs.{IsSubList, AreElements}
 use Rattle.affine_sets.specs.Conditions.{IsAverage}
-use Rattle.wyckoff_rows.specs.Steps.{IsEntry, IsAverageNearOrigin, AreKept, AreMet, HasKeyOf, IsAdded}
+use Rattle.wyckoff_rows.specs.Steps.{IsEntry, IsAverageNearOrigin, AreKept, AreMet, HasKeyOf}
 use Rattle.wyckoff_rows.specs.declared.entry.Entry.{Entry}
 use Rattle.wyckoff_rows.proofs.Standing.{closed_of_sub}
 use Rattle.affine_sets.proofs.Groups.{sub_of_list}
@@ -92,9 +91,6 @@ module _ (members : List Operator) (group : IsGroup members) where
       full = full;
       shifts = full_within members group a set near full full_elements;
     }
-
-pub added_none : (old : List Entry) (a : Block) → IsAdded false old a old
-added_none old a = record { one = λ e. absurd (false≢true e); none = λ _. refl }
 
 pub kept_more : (members : List Operator) (old : List Entry) (t : Entry) → AreKept members old → IsEntry members t → ((s : Entry) → Contains old s → s.key ≢ t.key) → AreKept members (old ++ t ∷ [])
 kept_more members old t h i n = record { group = h.group; each = All-append (IsEntry members) old (t ∷ []) h.each (All-cons (IsEntry members) t [] i (λ k d l. absurd (omega (arith, l)))); apart = AllPairs-append_one (λ (s u : Entry). s.key ≢ u.key) old t h.apart n }

@@ -13,9 +13,6 @@ use Rattle.finite_groups.proofs.Members as lists
 use Rattle.wyckoff_rows.specs.Steps.{IsIn, IsPushed}
 use Rattle.wyckoff_rows.specs.declared.ranges.Range.{Range}
 
-pub none_pushed : (P : Column → Type 0) (f : Operator) (list : List Map) → ((k : Column) → P k → ⊥) → IsPushed P f list list
-none_pushed P f list none = record { extends = λ c h. h; more = λ k p. absurd (none k p); only = λ c h. inl h }
-
 pub pushed_on : (P Q R : Column → Type 0) (f : Operator) (old now new : List Map) → IsPushed P f old now → IsPushed Q f now new → ((k : Column) → R k → P k ⊎ Q k) → ((k : Column) → P k → R k) → ((k : Column) → Q k → R k) → IsPushed R f old new
 pushed_on P Q R f old now new p q cut left right = record {
   extends = λ c h. q.extends c (p.extends c h);
@@ -100,9 +97,6 @@ Plane x ys zs v k = (k.x ≡ x) × IsBefore ys v k.y × IsIn zs k.z
 abbrev pub Box : Range → Range → Range → ℤ → Column → Type 0
 Box xs ys zs v k = IsBefore xs v k.x × IsIn ys k.y × IsIn zs k.z
 
-pub line_init : (f : Operator) (x y : ℤ) (zs : Range) (list : List Map) → IsPushed (Line x y zs zs.low) f list list
-line_init f x y zs list = none_pushed (Line x y zs zs.low) f list (λ k p. none_before zs k.z p.2)
-
 pub line_step : (f : Operator) (x y v : ℤ) (zs : Range) (old now new : List Map) → zs.low ≤ℤ v → IsPushed (Line x y zs v) f old now → IsPushed (λ j. j ≡ record { x = x; y = y; z = v }) f now new → IsPushed (Line x y zs (v +ℤ pos 1)) f old new
 line_step f x y v zs old now new l p q = pushed_on (Line x y zs v) (λ j. j ≡ record { x = x; y = y; z = v }) (Line x y zs (v +ℤ pos 1)) f old now new p q
     (λ k r. ⊎_elim (λ h. inl (r.0, r.1, h)) (λ h. inr (λ i. record { x = r.0 i; y = r.1 i; z = h i })) (split_at zs.low v k.z r.2.0 r.2.1))
@@ -112,9 +106,6 @@ line_step f x y v zs old now new l p q = pushed_on (Line x y zs v) (λ j. j ≡ 
 pub line_done : (f : Operator) (x y v : ℤ) (zs : Range) (old new : List Map) → IsUpTo zs v → zs.end ≤ℤ v → IsPushed (Line x y zs v) f old new → IsPushed (λ k. (k.x ≡ x) × (k.y ≡ y) × IsIn zs k.z) f old new
 line_done f x y v zs old new u e p = pushed_as (Line x y zs v) (λ k. (k.x ≡ x) × (k.y ≡ y) × IsIn zs k.z) f old new p (λ k r. (r.0, r.1, in_before zs v k.z e r.2)) (λ k r. (r.0, r.1, before_in zs v k.z u r.2))
 
-pub plane_init : (f : Operator) (x : ℤ) (ys zs : Range) (list : List Map) → IsPushed (Plane x ys zs ys.low) f list list
-plane_init f x ys zs list = none_pushed (Plane x ys zs ys.low) f list (λ k p. none_before ys k.y p.1)
-
 pub plane_step : (f : Operator) (x v : ℤ) (ys zs : Range) (old now new : List Map) → ys.low ≤ℤ v → IsPushed (Plane x ys zs v) f old now → IsPushed (λ k. (k.x ≡ x) × (k.y ≡ v) × IsIn zs k.z) f now new → IsPushed (Plane x ys zs (v +ℤ pos 1)) f old new
 plane_step f x v ys zs old now new l p q = pushed_on (Plane x ys zs v) (λ k. (k.x ≡ x) × (k.y ≡ v) × IsIn zs k.z) (Plane x ys zs (v +ℤ pos 1)) f old now new p q
     (λ k r. ⊎_elim (λ h. inl (r.0, h, r.2)) (λ h. inr (r.0, h, r.2)) (split_at ys.low v k.y r.1.0 r.1.1))
@@ -123,9 +114,6 @@ plane_step f x v ys zs old now new l p q = pushed_on (Plane x ys zs v) (λ k. (k
 
 pub plane_done : (f : Operator) (x v : ℤ) (ys zs : Range) (old new : List Map) → IsUpTo ys v → ys.end ≤ℤ v → IsPushed (Plane x ys zs v) f old new → IsPushed (λ k. (k.x ≡ x) × IsIn ys k.y × IsIn zs k.z) f old new
 plane_done f x v ys zs old new u e p = pushed_as (Plane x ys zs v) (λ k. (k.x ≡ x) × IsIn ys k.y × IsIn zs k.z) f old new p (λ k r. (r.0, in_before ys v k.y e r.1, r.2)) (λ k r. (r.0, before_in ys v k.y u r.1, r.2))
-
-pub box_init : (f : Operator) (xs ys zs : Range) (list : List Map) → IsPushed (Box xs ys zs xs.low) f list list
-box_init f xs ys zs list = none_pushed (Box xs ys zs xs.low) f list (λ k p. none_before xs k.x p.0)
 
 pub box_step : (f : Operator) (v : ℤ) (xs ys zs : Range) (old now new : List Map) → xs.low ≤ℤ v → IsPushed (Box xs ys zs v) f old now → IsPushed (λ k. (k.x ≡ v) × IsIn ys k.y × IsIn zs k.z) f now new → IsPushed (Box xs ys zs (v +ℤ pos 1)) f old new
 box_step f v xs ys zs old now new l p q = pushed_on (Box xs ys zs v) (λ k. (k.x ≡ v) × IsIn ys k.y × IsIn zs k.z) (Box xs ys zs (v +ℤ pos 1)) f old now new p q

@@ -1,6 +1,6 @@
 use Rattle.affine_sets.proofs.Shifting.{if_some, rest_is, shift_value, shift_some, shift_size, kept_near_size, some_cell, IsRest}
 use Rattle.affine_sets.proofs.fixing.whole_shift.Goals as goal
-use Rattle.affine_sets.proofs.fixing.whole_shift.Goals.{After-exact_quotient, After-cell_over}
+use Rattle.affine_sets.proofs.fixing.whole_shift.Goals.{After-exact_quotient}
 
 pub without-requires-clause-near : goal.without-requires-clause-near
 without-requires-clause-near c = kept_near_size c.args.n c.args.over c.requires.within c.requires.near

@@ -1,6 +1,6 @@
-use Rattle.std.proofs.Common.{◌≡◌, ◌≤◌, pos, unsigned_abs, w64, ap, sym, ◌∙◌, subst, arith, Contains}
+use Rattle.std.proofs.Common.{◌≤◌, pos, unsigned_abs, w64, ap, sym, ◌∙◌, subst, arith, Contains}
 use Rattle.std.proofs.lemmas.List.Elements.{All-contains, All-cons}
-use Rattle.lattice_algebra.specs.Matrix.{Column, column_of, ◌+ᶜ◌, times}
+use Rattle.lattice_algebra.specs.Matrix.{Column, ◌+ᶜ◌, times}
 use Rattle.lattice_algebra.specs.Operator.{Operator, IsOperator, AreWithin}
 use Rattle.lattice_algebra.specs.Map.{Map, IsShift}
 use Rattle.lattice_algebra.proofs.Maps.{shifted, operator_of-shifted, one_shift}

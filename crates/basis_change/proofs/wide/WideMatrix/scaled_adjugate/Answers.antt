@@ -1,7 +1,6 @@
 use Rattle.std.proofs.Common.{rules, w64}
 use Rattle.lattice_algebra.specs.Matrix.{adjugate, scaled}
 use Rattle.lattice_algebra.proofs.Machine.{read}
-use Rattle.exact_ops.specs.declared.TheConstants.{MAX_ENTRY}
 use Rattle.exact_ops.proofs.Bounds.{passed}
 use Rattle.basis_change.specs.Wide.{WIDE}
 use Rattle.basis_change.proofs.wide.WideMatrix.scaled_adjugate.Goals as goal
