@@ -11,6 +11,7 @@ use Rattle.lattice_algebra.proofs.Examples.{column}
 use Rattle.lattice_algebra.proofs.Remainders.{modulo_is}
 use Rattle.exact_ops.specs.declared.TheConstants.{UNIT}
 use Rattle.exact_ops.proofs.Narrow.{some_parts}
+use Rattle.group_closure.proofs.Examples.{one}
 use Rattle.space_groups.specs.Space.{IsElement}
 use Rattle.space_groups.specs.Bases.{CoordinateChange, IsCell, AreWhole, HasChanged}
 use Rattle.basis_change.specs.declared.wide.WideVector.{WideVector}
@@ -74,9 +75,6 @@ unfolding ◌·◌ scaled
 no_frame f = let e : pos 1 ≡ pos 8 = ap (λ (m : Matrix). m.xx) f.right in omega (arith, ints)
 
 -- ---- P1 in the cell x/8,y,z, and in 2*x,y,z
-
-abbrev pub one : List Operator
-one = identity_operator ∷ []
 
 pub element_of_one : (g : Map) → IsElement UNIT one g → (g.w ≡ identity) × (modulo UNIT g.s ≡ origin)
 unfolding operator_of

@@ -1,24 +1,22 @@
 -- Worked examples: what a change keeps, on literals: x,y,z itself over P1, P-1 and a centred cell; nothing cites these.
 use Rattle.std.proofs.Common.{◌≡◌, ◌≢◌, ◌++◌, ℕ, ℤ, pos, negsuc, ◌+ℤ◌, ◌*ℤ◌, List, [], ◌∷◌, length, ⊎_elim, Contains, ap, sym, ◌∙◌, subst, refl, arith}
-use Rattle.std.specs.List.Sorted.{IsStrictlySortedBy}
 use Rattle.std.proofs.lemmas.Int.{ints}
 use Rattle.std.proofs.lemmas.List.Kept.{AllPairs-cons}
 use Rattle.std.proofs.lemmas.List.Elements.{All-from_recursion}
 use Rattle.finite_groups.proofs.Members as lists
 use Rattle.lattice_algebra.specs.Matrix.{Matrix, Column, matrix_of, entries, coordinates, identity, origin, det, adjugate, scaled, times, ◌·◌, ◌·ᶜ◌, ◌+ᶜ◌}
-use Rattle.lattice_algebra.specs.Operator.{Operator, identity_operator, product, modulo}
+use Rattle.lattice_algebra.specs.Operator.{Operator, identity_operator, modulo}
 use Rattle.lattice_algebra.specs.Map.{Map, ◌∘◌, identity_map, map_of, operator_of}
 use Rattle.lattice_algebra.specs.Point.{Point, IsPoint, image}
 use Rattle.lattice_algebra.proofs.Ring.{con}
 use Rattle.lattice_algebra.proofs.MatrixRing.{SymMatrix, matrix_at, column_at, ◌·ˢ◌, ◌·ˢᶜ◌, ◌+ˢᶜ◌, sym_scaled, sym_times, sym_identity, sym_origin, column_ring, matrix_ring}
 use Rattle.lattice_algebra.proofs.Maps.{identity-∘, ∘-identity}
 use Rattle.lattice_algebra.proofs.Remainders.{modulo_is}
-use Rattle.lattice_algebra.proofs.Examples.{column, minus, inversion, inverting, inverting_is_operator, both, in_both, closed_list, point}
+use Rattle.lattice_algebra.proofs.Examples.{column, minus, inversion, inverting, both, in_both, point}
 use Rattle.exact_ops.specs.declared.TheConstants.{UNIT}
-use Rattle.exact_ops.specs.Narrow.{IsNarrow}
 use Rattle.exact_ops.proofs.Narrow.{some_parts}
 use Rattle.group_closure.specs.GroupList.{IsGroup}
-use Rattle.group_closure.proofs.CellOperators.{cell_operators}
+use Rattle.group_closure.proofs.Examples.{one, in_one, group_of_one, group_of_both}
 use Rattle.group_closure.proofs.Lists as groups
 use Rattle.space_groups.specs.Space.{IsInSite, AreConjugate}
 use Rattle.space_groups.specs.Lists.{IsSiteList, IsOrbitList}
@@ -33,7 +31,7 @@ use Rattle.phase_rules.specs.Marks.{phase_shift}
 use Rattle.basis_change.specs.Laws.{changed_row, MovesSites, KeepsConjugates, KeepsOrbitSizes, KeepsAbsences, KeepsClassSizes}
 use Rattle.basis_change.proofs.ChangedGroup.{moves_sites, keeps_conjugates, keeps_orbit_sizes}
 use Rattle.basis_change.proofs.Reflections.{keeps_absences, keeps_class_sizes}
-use Rattle.basis_change.proofs.Examples.{o, one, element_of_one, centred}
+use Rattle.basis_change.proofs.Examples.{o, element_of_one, centred}
 
 -- ---- x,y,z as a change
 
@@ -57,35 +55,6 @@ itself g = record { rotation = turned g.w; translation = shifted g.w g.s }
 
 unchanged_group : (members : List Operator) → IsChangedGroup UNIT members unchanged members
 unchanged_group members = record { each = λ g m. (g, m, itself g); only = λ h m. record { from = h; element = m; changed = itself h } }
-
--- P1 and P-1 are groups
-in_one : (f : Operator) → Contains one f → identity_operator ≡ f
-in_one f c = ⊎_elim (λ e. e) (λ n. lists.not_in_nil f n) (lists.Contains-cases f identity_operator [] c)
-
-group_of_one : IsGroup one
-unfolding IsStrictlySortedBy product modulo ◌·◌ ◌·ᶜ◌ ◌+ᶜ◌
-group_of_one = record {
-  first = refl;
-  distinct = λ i j d l m. absurd (omega arith);
-  closed = λ f g p q. subst (λ v. Contains one (product UNIT v g)) (in_one f p) (subst (λ v. Contains one (product UNIT identity_operator v)) (in_one g q) (0, omega arith, refl));
-  sorted = tt;
-  narrow = All-from_recursion IsNarrow one (record { is_operator = cell_operators.one_in; within_two = omega arith }, tt);
-  within = omega arith;
-}
-
-group_of_both : IsGroup both
-unfolding IsStrictlySortedBy
-group_of_both = record {
-  first = refl;
-  distinct = AllPairs-cons (λ f g. f ≢ g) identity_operator (inverting ∷ []) (All-from_recursion (λ g. identity_operator ≢ g) (inverting ∷ []) (apart, tt)) (λ i j d l m. absurd (omega arith));
-  closed = closed_list.closed;
-  sorted = (tt, tt);
-  narrow = All-from_recursion IsNarrow both (record { is_operator = cell_operators.one_in; within_two = omega arith }, (record { is_operator = inverting_is_operator; within_two = omega arith }, tt));
-  within = omega arith;
-}
-  where
-    apart : identity_operator ≢ inverting
-    apart e = let x : pos 1 ≡ negsuc 0 = ap (λ (f : Operator). f.w.xx) e in omega (arith, ints)
 
 -- what it keeps of P1
 keeps_sites_of_one : MovesSites one unchanged one

@@ -1,6 +1,5 @@
 -- Worked examples: the definitions on literals, most for P-1 in a grid of 3, 1 and 1 points; nothing cites these.
 use Rattle.std.proofs.Common.{◌≡◌, ◌≢◌, ◌<◌, ◌⊎◌, ◌↔◌, ℕ, zero, suc, ℤ, pos, negsuc, ◌*ℤ◌, true, false, List, [], ◌∷◌, get_or, inl, inr, ⊎_elim, Contains, ap, sym, ◌∙◌, subst, refl, arith}
-use Rattle.std.specs.List.Sorted.{IsStrictlySortedBy}
 use Rattle.std.proofs.lemmas.Bool.{false≢true}
 use Rattle.std.proofs.lemmas.Int.{ints}
 use Rattle.std.proofs.lemmas.List.Kept.{AllPairs-cons}
@@ -9,10 +8,8 @@ use Rattle.finite_groups.proofs.Members as lists
 use Rattle.lattice_algebra.specs.Matrix.{Matrix, Column, matrix_of, ◌·ᶜ◌, ◌+ᶜ◌, times, identity}
 use Rattle.lattice_algebra.specs.Operator.{Operator, identity_operator, modulo}
 use Rattle.lattice_algebra.specs.Map.{operator_of}
-use Rattle.lattice_algebra.proofs.Examples.{column, inversion, inverting, both, in_both, inverting_is_operator, closed_list}
-use Rattle.group_closure.proofs.CellOperators.{cell_operators}
-use Rattle.exact_ops.specs.Narrow.{IsNarrow}
-use Rattle.group_closure.specs.GroupList.{IsGroup}
+use Rattle.lattice_algebra.proofs.Examples.{column, inversion, inverting, both, in_both}
+use Rattle.group_closure.proofs.Examples.{group_of_both}
 use Rattle.grid_tags.specs.declared.line.GridLine.{GridLine}
 use Rattle.grid_tags.specs.Grids.{Grid, Triple, IsSide, IsGridInRange, IsGridImage, IsKeptBy, IsKept, IsInGrid, ComesBefore, column_at, triple_of, place_of}
 use Rattle.tag_walks.specs.Regions.{Region, IsListed}
@@ -151,27 +148,13 @@ kept f c = kept_by_axes three three_sides f (⊎_elim (λ e. subst (AreAxesKept 
 
 -- ---- orbits: in 3 1 1 the inversion exchanges 1/3,0,0 and 2/3,0,0
 
-group : IsGroup both
-unfolding IsStrictlySortedBy
-group = record {
-  first = refl;
-  distinct = AllPairs-cons (λ f g. f ≢ g) identity_operator (inverting ∷ []) (All-from_recursion (λ g. identity_operator ≢ g) (inverting ∷ []) (apart, tt)) (λ i j d l m. absurd (omega arith));
-  closed = closed_list.closed;
-  sorted = (tt, tt);
-  narrow = All-from_recursion IsNarrow both (record { is_operator = cell_operators.one_in; within_two = omega arith }, (record { is_operator = inverting_is_operator; within_two = omega arith }, tt));
-  within = omega arith;
-}
-  where
-    apart : identity_operator ≢ inverting
-    apart e = let x : pos 1 ≡ negsuc 0 = ap (λ (f : Operator). f.w.xx) e in omega (arith, ints)
-
 inside : (n : ℕ) → n < 3 → IsInGrid three (triple n 0 0)
 inside n l = record { i = l; j = omega arith; k = omega arith }
 
 -- a point of the grid goes to itself and to its image
 images : (p q : Triple) → IsInGrid three p → IsInGrid three q → AreInOneOrbit both three p q → (p ≡ q) ⊎ (act three inverting p ≡ q)
 images p q i j a =
-    let r = (in_orbit both three three_sides group kept p q j).0 a in
+    let r = (in_orbit both three three_sides group_of_both kept p q j).0 a in
     ⊎_elim (λ e. inl (sym (act_one three p i) ∙ ap (λ f. act three f p) e ∙ r.2)) (λ e. inr (ap (λ f. act three f p) e ∙ r.2)) (in_both r.0 r.1)
 
 exchanged : AreInOneOrbit both three (triple 1 0 0) (triple 2 0 0)
@@ -209,7 +192,7 @@ not_the_origin a = ⊎_elim (λ e. by e) (λ e. by' e) (images (triple 1 0 0) (t
     by' e = omega (arith, same 2 0 e)
 
 one_with_itself : AreInOneOrbit both three (triple 1 0 0) (triple 1 0 0)
-one_with_itself = orbit_itself both three three_sides group kept (triple 1 0 0) (inside 1 (omega arith))
+one_with_itself = orbit_itself both three three_sides group_of_both kept (triple 1 0 0) (inside 1 (omega arith))
 
 pair_is_orbit : IsGridOrbit both three (triple 1 0 0) pair
 pair_is_orbit = record {
@@ -245,10 +228,10 @@ abbrev line : ℕ → ℕ → GridLine
 line i n = record { at = i ∷ 0 ∷ 0 ∷ []; size = n }
 
 origin_line : IsGridLine both three (line 0 1)
-origin_line = line_is both three (0 ∷ 0 ∷ 0 ∷ []) 2 2 three_sides group kept (inside 0 (omega arith)) refl refl (omega arith) (sym two_fix)
+origin_line = line_is both three (0 ∷ 0 ∷ 0 ∷ []) 2 2 three_sides group_of_both kept (inside 0 (omega arith)) refl refl (omega arith) (sym two_fix)
 
 pair_line : IsGridLine both three (line 1 2)
-pair_line = line_is both three (1 ∷ 0 ∷ 0 ∷ []) 2 1 three_sides group kept (inside 1 (omega arith)) refl refl (omega arith) (sym one_fixes)
+pair_line = line_is both three (1 ∷ 0 ∷ 0 ∷ []) 2 1 three_sides group_of_both kept (inside 1 (omega arith)) refl refl (omega arith) (sym one_fixes)
 
 not_its_size : IsGridLine both three (line 1 1) → ⊥
 not_its_size l = omega (arith, l.size pair pair_is_orbit)
@@ -272,7 +255,7 @@ third_first : IsListed region (triple 1 0 0)
 third_first = record { in_region = inside 1 (omega arith); first = each_point (λ q. AreInOneOrbit both three (triple 1 0 0) q → ComesBefore q (triple 1 0 0) → ⊥) (λ a l. not_the_origin a) (λ a l. omega (arith, before 1 1 l)) (λ a l. omega (arith, before 2 1 l)) }
 
 not_first : IsListed region (triple 2 0 0) → ⊥
-not_first l = l.first (triple 1 0 0) (inside 1 (omega arith)) (orbit_back both three three_sides group kept (triple 1 0 0) (triple 2 0 0) (inside 1 (omega arith)) (inside 2 (omega arith)) exchanged) (inl (omega arith))
+not_first l = l.first (triple 1 0 0) (inside 1 (omega arith)) (orbit_back both three three_sides group_of_both kept (triple 1 0 0) (triple 2 0 0) (inside 1 (omega arith)) (inside 2 (omega arith)) exchanged) (inl (omega arith))
 
 grid_list : IsGridList both three (line 0 1 ∷ line 1 2 ∷ [])
 grid_list = record {
@@ -317,10 +300,10 @@ not_tagged t = false≢true t
 
 begun : IsWalk both (record { size = three; place = 0; tags = false ∷ false ∷ false ∷ [] }) []
 begun = record {
-  group = group;
+  group = group_of_both;
   range = record { a = (omega arith, omega arith); b = (omega arith, omega arith); c = (omega arith, omega arith); few = omega arith };
   kept = kept;
-  tags = walks.walk_begun (grid_region both three) (grid_lines both three) (tags.region both three three_sides group kept) (false ∷ false ∷ false ∷ []) (λ k. untagged k);
+  tags = walks.walk_begun (grid_region both three) (grid_lines both three) (tags.region both three three_sides group_of_both kept) (false ∷ false ∷ false ∷ []) (λ k. untagged k);
 }
   where
     untagged : (k : ℕ) → get_or (false ∷ false ∷ false ∷ []) k false ≡ false
@@ -352,6 +335,6 @@ not_all_reached a = false≢true ((a (triple 2 0 0) (inside 2 (omega arith))).1 
 all_reached : AreReached both three (triple 1 0 0) (false ∷ false ∷ false ∷ []) (false ∷ true ∷ true ∷ []) 2
 unfolding place_of turned moved
 all_reached = each_point (λ q. IsTagged three (false ∷ true ∷ true ∷ []) q ↔ (IsTagged three (false ∷ false ∷ false ∷ []) q ⊎ IsReached both three (triple 1 0 0) q))
-    ((λ t. absurd (false≢true t)), (λ t. ⊎_elim (λ u. absurd (false≢true u)) (λ r. absurd (not_the_origin ((in_orbit both three three_sides group kept (triple 1 0 0) (triple 0 0 0) (inside 0 (omega arith))).1 r))) t))
+    ((λ t. absurd (false≢true t)), (λ t. ⊎_elim (λ u. absurd (false≢true u)) (λ r. absurd (not_the_origin ((in_orbit both three three_sides group_of_both kept (triple 1 0 0) (triple 0 0 0) (inside 0 (omega arith))).1 r))) t))
     ((λ t. inr (identity_operator, (0, omega arith, refl), refl)), (λ t. refl))
     ((λ t. inr reached), (λ t. refl))

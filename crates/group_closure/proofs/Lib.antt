@@ -10,3 +10,4 @@ mod Filed
 mod Tables
 pub mod Places
 pub mod Existence
+pub mod Examples

@@ -5,7 +5,7 @@ use Rattle.std.proofs.lemmas.Int.{ints}
 use Rattle.std.proofs.lemmas.List.Elements.{All-from_recursion}
 use Rattle.finite_groups.proofs.Members as lists
 use Rattle.lattice_algebra.specs.Matrix.{Column, coordinates, identity, origin, times, ◌·◌, ◌·ᶜ◌, ◌+ᶜ◌}
-use Rattle.lattice_algebra.specs.Operator.{Operator, identity_operator, product, modulo}
+use Rattle.lattice_algebra.specs.Operator.{identity_operator, modulo}
 use Rattle.lattice_algebra.specs.Map.{Map, identity_map, operator_of}
 use Rattle.lattice_algebra.proofs.Examples.{column, point}
 use Rattle.exact_ops.specs.declared.TheConstants.{UNIT}
@@ -22,12 +22,9 @@ use Rattle.wyckoff_rows.specs.declared.entry.Entry.{Entry}
 use Rattle.wyckoff_rows.specs.Steps.{IsAverageNearOrigin, AreKept, HasKeyOf, AreMet, HasGrown, IsGrownByAll, Extends, StandsFor, AreEnough, IsCovered, IsPushed, IsVisited, last_set, IsKeptMore, IsAdded, IsEntry, AreIn, AreRanges, IsVisiting}
 use Rattle.wyckoff_rows.specs.Table.{IsRowOfAverage, IsTableOf}
 use Rattle.wyckoff_rows.specs.Laws.{IsOnlyPlaceOf, IsPlaceOfBoth}
-use Rattle.std.specs.List.Sorted.{IsStrictlySortedBy}
 use Rattle.std.proofs.lemmas.Option.{slice_get_within, same_Some}
 use Rattle.lattice_algebra.specs.Point.{Point, IsPoint}
-use Rattle.exact_ops.specs.Narrow.{IsNarrow}
-use Rattle.group_closure.specs.GroupList.{IsGroup}
-use Rattle.group_closure.proofs.CellOperators.{cell_operators}
+use Rattle.group_closure.proofs.Examples.{one, group_of_one}
 use Rattle.space_groups.specs.Rows.{Row, Fits, IsTable, IsAt}
 use Rattle.space_groups.proofs.Means as means
 use Rattle.space_groups.proofs.OneOperator as smallest
@@ -35,23 +32,6 @@ use Rattle.wyckoff_rows.specs.declared.ranges.Ranges.{Ranges}
 use Rattle.wyckoff_rows.proofs.Examples.{o, trivial, fixed, half, without_shift}
 
 -- ---- kept groups
-
-abbrev one : List Operator
-one = identity_operator ∷ []
-
-in_one : (f : Operator) → Contains one f → identity_operator ≡ f
-in_one f c = ⊎_elim (λ e. e) (λ n. lists.not_in_nil f n) (lists.Contains-cases f identity_operator [] c)
-
-group_of_one : IsGroup one
-unfolding IsStrictlySortedBy product modulo ◌·◌ ◌·ᶜ◌ ◌+ᶜ◌
-group_of_one = record {
-  first = refl;
-  distinct = λ i j d l m. absurd (omega arith);
-  closed = λ f g p q. subst (λ v. Contains one (product UNIT v g)) (in_one f p) (subst (λ v. Contains one (product UNIT identity_operator v)) (in_one g q) (0, omega arith, refl));
-  sorted = tt;
-  narrow = All-from_recursion IsNarrow one (record { is_operator = cell_operators.one_in; within_two = omega arith }, tt);
-  within = omega arith;
-}
 
 -- the group of the identity alone
 abbrev alone : Entry
