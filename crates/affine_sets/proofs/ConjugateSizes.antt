@@ -3,7 +3,7 @@ use Rattle.std.proofs.Common.{◌≡◌, [], ◌∷◌, ◌≤◌, ◌<◌, ◌*
 use Rattle.std.proofs.lemmas.List.Elements.{All-head, All-tail, All-contains}
 use Rattle.lattice_algebra.specs.Matrix.{Matrix, ◌+ᵐ◌, scaled}
 use Rattle.lattice_algebra.specs.Operator.{Operator, AreWithin, HasEntriesWithin}
-use Rattle.lattice_algebra.specs.Map.{Map, map_of, operator_of, undo}
+use Rattle.lattice_algebra.specs.Map.{Map, map_of, undo}
 use Rattle.lattice_algebra.proofs.Maps.{operator_of-map}
 use Rattle.lattice_algebra.proofs.Numbers.{abs_add}
 use Rattle.exact_ops.specs.declared.TheConstants.{UNIT}
@@ -19,6 +19,7 @@ use Rattle.space_groups.proofs.Growing.{closed_sub, sub_closed}
 use Rattle.site_symmetry.proofs.SpaceOfGroup.{space_of}
 use Rattle.affine_sets.specs.Conditions.{IsAverage}
 use Rattle.affine_sets.specs.Conjugates.{turned_matrix}
+use Rattle.affine_sets.proofs.Groups.{narrow_element}
 use Rattle.affine_sets.proofs.LeftAlone.{number_size}
 
 abbrev narrow : Map → Type 0
@@ -56,10 +57,6 @@ mean_rows l n a b some e h =
 mean_matrix : (k : ℕ) (n : ℕ) (a b : Block) → block_scaled (pos k) a ≡ block_scaled (pos n) b → scaled (pos k) a.m ≡ scaled (pos n) b.m
 unfolding block_scaled
 mean_matrix k n a b e = ap (λ (v : Block). v.m) e
-
-narrow_element : (members : List Operator) (g : IsGroup members) (e : Map) → IsElement UNIT members e → narrow e
-unfolding operator_of
-narrow_element members g e m = (All-contains IsNarrow members (operator_of UNIT e) g.narrow m).within_two
 
 pub sub_within : (members : List Operator) (g : IsGroup members) (list : List Map) (a : Block) → IsSub UNIT members list → IsMean (length members) list a → HasEntriesWithin (2 * length members) a.m
 sub_within members g list a s mean =

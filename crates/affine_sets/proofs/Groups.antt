@@ -1,10 +1,10 @@
 -- Finite groups of elements, as they are kept: lists of maps in order.
-use Rattle.std.proofs.Common.{◌≡◌, ◌++◌, ◌∷◌, [], ◌≤◌, ◌+◌, ◌<◌, ◌↔◌, ℕ, ℤ, pos, ◌+ℤ◌, ◌*ℤ◌, ◌<ℤ◌, unsigned_abs, le_trans, List, length, map, take, get_or, Contains, ⊎_elim, ap, ap₂, sym, refl, subst, ◌∙◌, arith}
+use Rattle.std.proofs.Common.{◌≡◌, ◌++◌, [], ◌∷◌, ◌≤◌, ◌+◌, ◌<◌, ◌↔◌, ℕ, ℤ, pos, ◌+ℤ◌, ◌*ℤ◌, ◌<ℤ◌, unsigned_abs, le_trans, List, length, map, take, get_or, Contains, ⊎_elim, ap, ap₂, sym, refl, subst, ◌∙◌, arith}
 use Rattle.std.proofs.lemmas.Int.{ints}
 use Rattle.std.proofs.lemmas.Option.{slice_get_within, get_or_from_slice_get}
 use Rattle.std.proofs.lemmas.List.{map-append, length-map, length-take-le, take_more, take_all}
-use Rattle.std.proofs.lemmas.List.Elements.{All-cons, All-nil}
-use Rattle.lattice_algebra.specs.Operator.{Operator, AreWithin, identity_operator, modulo}
+use Rattle.std.proofs.lemmas.List.Elements.{All-cons, All-nil, All-contains}
+use Rattle.lattice_algebra.specs.Operator.{Operator, AreWithin, HasEntriesWithin, identity_operator, modulo}
 use Rattle.lattice_algebra.specs.Matrix.{Column, origin, ◌+ᶜ◌, times}
 use Rattle.std.specs.List.Sorted.{IsStrictlySortedBy}
 use Rattle.finite_groups.proofs.Members as lists
@@ -12,10 +12,11 @@ use Rattle.lattice_algebra.proofs.Maps.{identity-∘}
 use Rattle.exact_ops.specs.Moves.{map_with}
 use Rattle.space_groups.proofs.Elements.{space}
 use Rattle.space_groups.proofs.ScaledPoints.{moved-identity}
-use Rattle.lattice_algebra.specs.Map.{Map, ◌∘◌, identity_map, IsShift}
+use Rattle.lattice_algebra.specs.Map.{Map, ◌∘◌, identity_map, operator_of, IsShift}
 use Rattle.exact_ops.specs.declared.TheConstants.{UNIT}
 use Rattle.exact_ops.specs.declared.moves.Move.{Move}
 use Rattle.exact_ops.specs.Elements.{map_in}
+use Rattle.exact_ops.specs.Narrow.{IsNarrow}
 use Rattle.group_closure.specs.declared.TheConstants.{MAX_OPERATORS}
 use Rattle.group_closure.specs.GroupList.{IsGroup}
 use Rattle.space_groups.specs.Space.{IsElement, ScaledPoint, moved}
@@ -28,6 +29,11 @@ use Rattle.space_groups.proofs.Rows.{some_members}
 use Rattle.site_symmetry.proofs.SpaceOfGroup.{space_of}
 use Rattle.affine_sets.specs.Subs.{IsSubList, AreElements, AreShiftsWithin}
 use Rattle.affine_sets.proofs.Sums.{sum_push, number_of_sum}
+
+-- an element has a narrow matrix
+pub narrow_element : (members : List Operator) → IsGroup members → (e : Map) → IsElement UNIT members e → HasEntriesWithin 2 e.w
+unfolding operator_of
+narrow_element members group e m = (All-contains IsNarrow members (operator_of UNIT e) group.narrow m).within_two
 
 pub sub_of_list : (members : List Operator) (list : List Map) → IsSubList list → AreElements members list → IsSub UNIT members list
 sub_of_list members list s v = record {

@@ -9,6 +9,7 @@ pub mod LeftAlone
 pub mod ImageFixers
 mod ShiftedSets
 pub mod SitesOfPoints
+pub mod CellAverages
 mod MovedLists
 mod NearSets
 pub mod KeyNumbers

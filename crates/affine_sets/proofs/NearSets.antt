@@ -1,5 +1,5 @@
 -- A finite group of elements moved near the origin.
-use Rattle.std.proofs.Common.{◌≡◌, ◌++◌, ◌∷◌, [], ◌≤◌, ◌<◌, ◌+◌, ◌*◌, ◌^◌, ℕ, zero, suc, ℤ, pos, ◌+ℤ◌, ◌*ℤ◌, unsigned_abs, List, length, map, take, get_or, Contains, ap, ap₂, sym, ◌∙◌, subst, arith, mul-le-mul, le_refl}
+use Rattle.std.proofs.Common.{◌≡◌, ◌++◌, [], ◌∷◌, ◌≤◌, ◌<◌, ◌+◌, ◌*◌, ◌^◌, ℕ, zero, suc, ℤ, pos, ◌+ℤ◌, ◌*ℤ◌, unsigned_abs, List, length, map, take, get_or, Contains, ap, ap₂, sym, ◌∙◌, subst, arith, mul-le-mul, le_refl}
 use Rattle.std.specs.Int.{int_div_euclid, int_rem_euclid}
 use Rattle.std.proofs.lemmas.Int.{ints, unsigned_abs-mul}
 use Rattle.std.proofs.lemmas.List.{map-append, take_more, take_all}
@@ -7,7 +7,7 @@ use Rattle.std.proofs.lemmas.List.Elements.{All-contains, Contains-get_or}
 use Rattle.finite_groups.proofs.Members as lists
 use Rattle.lattice_algebra.specs.Matrix.{Column, neg_column}
 use Rattle.lattice_algebra.specs.Operator.{Operator, AreWithin, HasEntriesWithin, IsPart, modulo}
-use Rattle.lattice_algebra.specs.Map.{Map, operator_of}
+use Rattle.lattice_algebra.specs.Map.{Map}
 use Rattle.lattice_algebra.proofs.Maps.{shifted}
 use Rattle.lattice_algebra.proofs.Numbers.{above}
 use Rattle.lattice_algebra.proofs.Remainders.{quotient_is, rem_is, modulo_parts}
@@ -25,7 +25,7 @@ use Rattle.affine_sets.specs.declared.TheConstants.{MAX_NEAR_SHIFT, MAX_TRANSLAT
 use Rattle.affine_sets.specs.Averages.{IsSpecialBlock, whole_part}
 use Rattle.affine_sets.specs.Subs.{IsSubList, AreElements, AreShiftsWithin, IsNearShift, conjugate_by}
 use Rattle.affine_sets.proofs.Sums.{same_count}
-use Rattle.affine_sets.proofs.Groups.{sub_of_list}
+use Rattle.affine_sets.proofs.Groups.{sub_of_list, narrow_element}
 use Rattle.affine_sets.proofs.LeftAlone.{part_size}
 use Rattle.affine_sets.proofs.ShiftedSets.{conjugate_is, moved_near, shift_near}
 use Rattle.affine_sets.proofs.MovedLists.{rotation_kept}
@@ -73,10 +73,6 @@ whole_small a s =
     record { first = at a.t.x s.translation.first; second = at a.t.y s.translation.second; third = at a.t.z s.translation.third }
 
 -- ---- how small the shifts are
-
-narrow_element : (members : List Operator) → IsGroup members → (e : Map) → IsElement UNIT members e → HasEntriesWithin 2 e.w
-unfolding operator_of
-narrow_element members g e m = (All-contains IsNarrow members (operator_of UNIT e) g.narrow m).within_two
 
 module _ (members : List Operator) (g : IsGroup members) (list : List Map) (s : IsSubList list) (v : AreElements members list) (a : Block) (mean : IsMean (length members) list a) (special : IsSpecialBlock a) (number : a.n ≡ pos (length members)) where
   near_moved : (e : Map) → Contains list e → (let c = (conjugate_by (shift_by UNIT (neg_column (whole_part a))) e).s in AreWithin (49 * UNIT) c.x c.y c.z)

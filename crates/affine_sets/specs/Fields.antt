@@ -1,6 +1,6 @@
 -- What the fields of averages and keys stand for.
 use Rattle.std.specs.Prelude.{ℕ, ℤ, pos, unsigned_abs}
-use Rattle.lattice_algebra.specs.Matrix.{Matrix, Column}
+use Rattle.lattice_algebra.specs.Matrix.{Column}
 use Rattle.exact_ops.specs.declared.matrix.Rotation.{Rotation}
 use Rattle.exact_ops.specs.Fields as operators
 use Rattle.affine_sets.specs.declared.numbers.Offset.{Offset}
@@ -18,14 +18,8 @@ abbrev pub key_in : Rotation → Vector → Key
 key_in m t = record { m = operators.matrix_in m; t = operators.column_in t }
 
 -- and back
-abbrev pub stored_matrix : Matrix → Rotation
-stored_matrix m = operators.stored_matrix m
-
 abbrev pub stored_offset : Column → Offset
 stored_offset c = record { x = c.x; y = c.y; z = c.z }
-
-abbrev pub stored_column : Column → Vector
-stored_column c = operators.stored_column c
 
 abbrev pub stored_number : ℤ → ℕ
 stored_number n = unsigned_abs n

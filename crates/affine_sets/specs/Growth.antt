@@ -60,7 +60,7 @@ pub record AreOld (members : List Operator) (old : List Placed) : Type 0 where
 abbrev pub IsInBlock : List Operator → List Placed → Placed → Map → Type 0
 IsInBlock members old x e = (h : Placed) × Contains old h × (placed_map members h ∘ placed_map members x ≡ e)
 
--- what is held are whole blocks, one for each of the firsts; the whole shift of each of these is less than seven million times its place
+-- what is held are whole blocks, one for each of the firsts; the whole shift of the one at place j is at most j + 1 times seven million
 pub record IsGrowing (members : List Operator) (old : List Placed) (held : List (Option Offset)) (firsts : List Placed) : Type 0 where
   pub has_old : (h : Placed) → Contains old h → HoldsMap members held (placed_map members h)
   pub zero : Holds held 0 no_shift

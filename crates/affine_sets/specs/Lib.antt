@@ -1,6 +1,3 @@
-pub use Rattle.space_groups.specs.Space
-pub use Rattle.space_groups.specs.Keys
-pub use Rattle.space_groups.specs.Search
 pub mod Subs
 pub mod Averages
 pub mod Fields

@@ -7,7 +7,7 @@ ghost use Rattle.lattice_algebra.specs.Operator.{AreWithin};
 ghost use Rattle.lattice_algebra.specs.Point.{◌≈◌};
 ghost use Rattle.exact_ops.specs.Numbers.{point_in};
 ghost use Rattle.exact_ops.specs.declared.TheConstants.{UNIT as PARTS};
-ghost use Rattle.space_groups.specs.Space.{ScaledPoint, point_of};
+ghost use Rattle.space_groups.specs.Space.{IsInCell, ScaledPoint, point_of};
 ghost use Rattle.space_groups.specs.Averages.{IsInImage};
 ghost use Rattle.space_groups.specs.Rows.{IsSpecial};
 ghost use Rattle.space_groups.specs.Search.{IsFull};
@@ -152,6 +152,8 @@ fn is_left(
 pub fn average_at(g: &Group, p: &Point) -> Special
     ensures special { IsSpecial PARTS g.now (point_in p.now) result }
     ensures over { result.n ≡ pos (length g.now) }
+    // Of a point of the cell it may be asked for its full group and its key.
+    ensures average { IsInCell (point_in p.now) → IsAverage g.now result }
     // What is true of every group.
     ensures group { IsGroup g.now }
 {

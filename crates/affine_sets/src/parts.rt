@@ -21,7 +21,8 @@ impl Model for Key {
 
     ghost Value = { KeyOver };
 
-    ghost use Rattle.affine_sets.specs.Fields.{key_in, stored_matrix, stored_column};
+    ghost use Rattle.exact_ops.specs.Fields.{stored_matrix, stored_column};
+    ghost use Rattle.affine_sets.specs.Fields.{key_in};
 
     ghost view = { λ a. record { key = key_in a.m a.t; over = a.over } };
 

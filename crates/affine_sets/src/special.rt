@@ -40,7 +40,8 @@ impl Model for Special {
 
     ghost Value = { Block };
 
-    ghost use Rattle.affine_sets.specs.Fields.{block_in, stored_matrix, stored_offset, stored_number};
+    ghost use Rattle.exact_ops.specs.Fields.{stored_matrix};
+    ghost use Rattle.affine_sets.specs.Fields.{block_in, stored_offset, stored_number};
 
     ghost view = { λ a. block_in a.m a.t a.over };
 
@@ -151,7 +152,8 @@ impl Model for Sum {
 
     ghost Value = { Block };
 
-    ghost use Rattle.affine_sets.specs.Fields.{block_in, stored_matrix, stored_offset, stored_number};
+    ghost use Rattle.exact_ops.specs.Fields.{stored_matrix};
+    ghost use Rattle.affine_sets.specs.Fields.{block_in, stored_offset, stored_number};
 
     ghost view = { λ a. block_in a.m a.t a.count };
 

@@ -7,7 +7,7 @@ use Rattle.lattice_algebra.specs.Map.{operator_of}
 use Rattle.lattice_algebra.specs.Point.{Point, image}
 use Rattle.lattice_algebra.proofs.Examples.{column, inversion, inverting, point}
 use Rattle.orbit_map.specs.OrderedOrbit.{IsScaled}
-use Rattle.orbit_map.specs.Steps.{IsPlaced}
+use Rattle.orbit_map.specs.Placed.{IsPlaced}
 
 -- 12/24,0,0 is over a multiple of 24, and 1/2,0,0 is not
 scaled : IsScaled (point (pos 12) (pos 0) (pos 0) (pos 24))

@@ -18,7 +18,7 @@ use Rattle.exact_ops.specs.Points.{point_with, IsPointInRange}
 use Rattle.exact_ops.proofs.Narrow.{some_parts}
 use Rattle.exact_ops.proofs.Bounds.{denominator_bound, image_limit, denominator_within, kept_denominator, kept_image}
 use Rattle.space_groups.specs.Space.{IsInCell}
-use Rattle.orbit_map.specs.Steps.{IsPlaced}
+use Rattle.orbit_map.specs.Placed.{IsPlaced}
 
 -- ---- numbers that the machine keeps
 

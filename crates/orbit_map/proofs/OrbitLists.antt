@@ -33,7 +33,8 @@ use Rattle.space_groups.proofs.OrbitLists.{stays_in_cell, orbit_points, orbit_li
 use Rattle.space_groups.proofs.Points.{scaled_of, IsPoint-scaled, image_of}
 use Rattle.space_groups.proofs.Ordered.{not_below_itself, below_on}
 use Rattle.orbit_map.specs.OrderedOrbit.{IsOrderedOrbit, IsScaled}
-use Rattle.orbit_map.specs.Steps.{IsPlaced, stored_cmp}
+use Rattle.orbit_map.specs.Placed.{IsPlaced}
+use Rattle.orbit_map.specs.Steps.{stored_cmp}
 use Rattle.site_symmetry.proofs.SpaceOfGroup.{space_of}
 use Rattle.orbit_map.proofs.Order.{in_order, below_over_one, stored_eq, stored_eq-is, stored_ties, stored_same, stored_cmp_total, stored_below}
 

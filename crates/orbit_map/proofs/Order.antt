@@ -5,7 +5,7 @@ use Rattle.std.proofs.Math.Bool.{and-eq-true_iff}
 use lib.Pointwise.{pointwise}
 use Rattle.std.specs.Cmp.{IsTotalOrder, IsEquivalence, signed_Decides}
 use Rattle.std.specs.Cmp.Rules.{signed_items}
-use Rattle.std.specs.Ordering.{ordering_then, int_cmp, int_eq, is_eq, eq_by_cmp, MatchOrdering}
+use Rattle.std.specs.Ordering.{ordering_then, int_cmp, int_eq, is_eq, eq_by_cmp}
 use Rattle.std.specs.Cmp.Lexicographic.{slice_cmp, lists_ties}
 use Rattle.std.proofs.lemmas.Cmp.{lists_total, on_total, then_total, int_cmp_total, int_ranked, lists_equiv, on_equiv, and_equiv, int_eq_equiv}
 use Rattle.exact_ops.specs.Points.{point_with}

@@ -1,2 +1,3 @@
 pub mod OrderedOrbit
+pub mod Placed
 pub mod Steps

@@ -3,7 +3,8 @@ ghost use Rattle.lattice_algebra.specs.Operator.{IsOperator};
 ghost use Rattle.exact_ops.specs.declared.TheConstants.{UNIT};
 ghost use Rattle.exact_ops.specs.Numbers.{point_in};
 ghost use Rattle.orbit_map.specs.OrderedOrbit.{IsOrderedOrbit};
-ghost use Rattle.orbit_map.specs.Steps.{IsPlaced, stored_cmp};
+ghost use Rattle.orbit_map.specs.Placed.{IsPlaced};
+ghost use Rattle.orbit_map.specs.Steps.{stored_cmp};
 
 use crate::parts::Orbit;
 use exact_ops::{NoMemory, Op, Point};

@@ -104,8 +104,11 @@ passed_entry : (a : ℤ) (q n : ℕ) → n ≤ MAX_OPERATORS → unsigned_abs a 
 passed_entry a q n l s h = subst (λ v. IsWholeEntry v q n) (sym (kept w32 384 a (omega (arith, l, s)) tt)) h
 
 -- the entries, as they are passed on
+abbrev pub passed_matrix : Matrix → Matrix
+passed_matrix m = record { xx = back w32 m.xx; xy = back w32 m.xy; xz = back w32 m.xz; yx = back w32 m.yx; yy = back w32 m.yy; yz = back w32 m.yz; zx = back w32 m.zx; zy = back w32 m.zy; zz = back w32 m.zz }
+
 passed_entries : (q : Sizes) (m : Matrix) (n : ℕ) → n ≤ MAX_OPERATORS → HasEntriesWithin (2 * n) m → AreWholeFor q m n
-    → AreWholeEntries q (record { xx = back w32 m.xx; xy = back w32 m.xy; xz = back w32 m.xz; yx = back w32 m.yx; yy = back w32 m.yy; yz = back w32 m.yz; zx = back w32 m.zx; zy = back w32 m.zy; zz = back w32 m.zz }) n
+    → AreWholeEntries q (passed_matrix m) n
 passed_entries q m n l w h =
     let e = whole_entries q m n h in
     record {
@@ -122,7 +125,7 @@ passed_entries q m n l w h =
 
 -- so of an average, from its matrix as it was read
 pub read_entries : (a : Block) (q : Sizes) (m : Matrix) (n : ℕ) → m ≡ a.m → IsSpecialBlock a → pos n ≡ a.n → AreWholeFor q m n
-    → AreWholeEntries q (record { xx = back w32 m.xx; xy = back w32 m.xy; xz = back w32 m.xz; yx = back w32 m.yx; yy = back w32 m.yy; yz = back w32 m.yz; zx = back w32 m.zx; zy = back w32 m.zy; zz = back w32 m.zz }) n
+    → AreWholeEntries q (passed_matrix m) n
 read_entries a q m n is s e whole = let o = over_is a n s e in passed_entries q m n o.few (subst (HasEntriesWithin (2 * n)) (sym is) o.entries) whole
 
 -- an entry of a whole column, as it was passed on and returned

@@ -3,29 +3,29 @@ use Rattle.std.proofs.Common.{◌≡◌, ◌<◌, ◌≤◌, ◌+◌, ◌*◌, �
 use Rattle.std.proofs.lemmas.Int.{ints, unsigned_abs-mul}
 use Rattle.std.proofs.lemmas.List.Elements.{All-contains, Contains-get_or}
 use native.Mathlib.Nat.{le_of_mul-le-mul_left}
-use Rattle.lattice_algebra.specs.Matrix.{Column, coordinates, ◌·ᶜ◌, ◌+ᶜ◌, times, origin}
-use Rattle.lattice_algebra.specs.Operator.{Operator, AreWithin, IsPart, HasEntriesWithin, modulo}
-use Rattle.lattice_algebra.specs.Map.{Map, operator_of, IsShift}
+use Rattle.lattice_algebra.specs.Matrix.{Column, coordinates, ◌+ᶜ◌, times, origin}
+use Rattle.lattice_algebra.specs.Operator.{Operator, AreWithin, IsPart, modulo}
+use Rattle.lattice_algebra.specs.Map.{Map, IsShift}
 use Rattle.lattice_algebra.proofs.Numbers.{abs_add}
 use Rattle.lattice_algebra.proofs.Remainders.{whole_part, modulo_parts}
 use Rattle.lattice_algebra.proofs.MatrixRing.{column_at, ◌+ˢᶜ◌, sym_origin, column_ring}
 use Rattle.finite_groups.proofs.Members as lists
-use Rattle.exact_ops.specs.Narrow.{IsNarrow}
 use Rattle.exact_ops.specs.declared.TheConstants.{UNIT}
 use Rattle.exact_ops.proofs.Narrow.{some_parts}
 use Rattle.group_closure.specs.GroupList.{IsGroup}
 use Rattle.group_closure.specs.declared.TheConstants.{MAX_OPERATORS}
 use Rattle.site_symmetry.proofs.SpaceOfGroup.{space_of}
-use Rattle.space_groups.specs.Space.{IsElement, ScaledPoint, moved}
+use Rattle.space_groups.specs.Space.{ScaledPoint}
 use Rattle.space_groups.specs.Averages.{Block, block_of, block_plus, block_times, block_scaled, sum_of, IsMean, IsInImage}
 use Rattle.space_groups.specs.Search.{IsFull}
 use Rattle.space_groups.proofs.Elements.{SpaceGroup}
 use Rattle.space_groups.proofs.Blocks.{translation_part}
 use Rattle.space_groups.proofs.Means.{Averaged, number, idempotent_itself}
-use Rattle.space_groups.proofs.RowSizes.{row_size}
 use Rattle.space_groups.proofs.Rows.{some_members}
 use Rattle.affine_sets.specs.declared.TheConstants.{MAX_GROWN_SHIFT, MAX_NEAR_SHIFT}
 use Rattle.affine_sets.specs.Subs.{AreElements, AreShiftsWithin}
+use Rattle.affine_sets.proofs.Groups.{narrow_element}
+use Rattle.affine_sets.proofs.CellAverages.{fixing_shift_small}
 use Rattle.wyckoff_rows.specs.Steps.{IsAverageNearOrigin}
 use Rattle.wyckoff_rows.proofs.Standing.{closed_of_sub}
 
@@ -81,39 +81,6 @@ point_at n some a = record { n = a.t; d = n; some = some }
 in_image : (n : ℕ) (some : 0 < n) (a : Block) → a.n ≡ pos n → block_times a a ≡ block_scaled a.n a → IsInImage a (point_at n some a)
 in_image n some a e i = ap (λ c. c +ᶜ times (pos n) a.t) (translation_part a i) ∙ origin_plus (times (pos n) a.t) ∙ ap (λ k. times k a.t) (sym e)
 
--- one row of n s = t - W t, where s is t' + UNIT k
-shift_row : (w0 w1 w2 t0 t1 t2 t s p k : ℤ) (n : ℕ) → 0 < n → AreWithin 2 w0 w1 w2 → AreWithin (n * (UNIT * 51)) t0 t1 t2 → unsigned_abs t ≤ n * (UNIT * 51) → (w0 *ℤ t0 +ℤ w1 *ℤ t1 +ℤ w2 *ℤ t2) +ℤ pos n *ℤ s ≡ t → s ≡ p +ℤ pos UNIT *ℤ k → IsPart UNIT p
-    → unsigned_abs k ≤ 358
-shift_row w0 w1 w2 t0 t1 t2 t s p k n some w h g e f part =
-    let b = n * (UNIT * 51) in
-    let row = w0 *ℤ t0 +ℤ w1 *ℤ t1 +ℤ w2 *ℤ t2 in
-    let size = row_size w0 w1 w2 t0 t1 t2 b b b h.first h.second h.third in
-    let c0 : unsigned_abs w0 * b ≤ 2 * b = mul-le-mul w.first (le_refl b) in
-    let c1 : unsigned_abs w1 * b ≤ 2 * b = mul-le-mul w.second (le_refl b) in
-    let c2 : unsigned_abs w2 * b ≤ 2 * b = mul-le-mul w.third (le_refl b) in
-    let l : n * unsigned_abs s ≤ n * (UNIT * 357) = omega (arith, moved_size row t (pos n *ℤ s) e, unsigned_abs-mul (pos n) s) in
-    last s p k (le_of_mul-le-mul_left l some) f part
-  where
-    moved_size : (r t x : ℤ) → r +ℤ x ≡ t → unsigned_abs x ≤ unsigned_abs t + unsigned_abs r
-    moved_size r t x e = omega (arith, ints, e)
-
-    last : (s p k : ℤ) → unsigned_abs s ≤ UNIT * 357 → s ≡ p +ℤ pos UNIT *ℤ k → IsPart UNIT p → unsigned_abs k ≤ 358
-    last s p k h e q = omega (arith, ints)
-
-pub shift_within : (e : Map) (t k : Column) (n : ℕ) (some : 0 < n) → HasEntriesWithin 2 e.w → AreWithin (n * (UNIT * 51)) t.x t.y t.z → moved e (record { n = t; d = n; some = some }) ≡ record { n = t; d = n; some = some } → IsShift UNIT e k → AreWithin MAX_GROWN_SHIFT k.x k.y k.z
-unfolding moved ◌·ᶜ◌ ◌+ᶜ◌ times
-shift_within e t k n some w h fix s =
-    let c : e.w ·ᶜ t +ᶜ times (pos n) e.s ≡ t = ap (λ (y : ScaledPoint). y.n) fix in
-    let p = modulo_parts UNIT some_parts e.s in
-    let x = shift_row e.w.xx e.w.xy e.w.xz t.x t.y t.z t.x e.s.x (modulo UNIT e.s).x k.x n some w.x h h.first (ap (λ (v : Column). v.x) c) (ap (λ (v : Column). v.x) s) p.x in
-    let y = shift_row e.w.yx e.w.yy e.w.yz t.x t.y t.z t.y e.s.y (modulo UNIT e.s).y k.y n some w.y h h.second (ap (λ (v : Column). v.y) c) (ap (λ (v : Column). v.y) s) p.y in
-    let z = shift_row e.w.zx e.w.zy e.w.zz t.x t.y t.z t.z e.s.z (modulo UNIT e.s).z k.z n some w.z h h.third (ap (λ (v : Column). v.z) c) (ap (λ (v : Column). v.z) s) p.z in
-    record { first = omega (arith, x); second = omega (arith, y); third = omega (arith, z) }
-
-pub narrow_element : (members : List Operator) → IsGroup members → (e : Map) → IsElement UNIT members e → HasEntriesWithin 2 e.w
-unfolding operator_of
-narrow_element members group e c = (All-contains IsNarrow members (operator_of UNIT e) group.narrow c).within_two
-
 -- the average of a group near the origin has a small translation
 pub near_translation : (members : List Operator) → IsGroup members → (a : Block) → IsAverageNearOrigin members a → AreWithin (length members * (UNIT * 51)) a.t.x a.t.y a.t.z
 near_translation members group a near =
@@ -126,7 +93,7 @@ full_within members group a set near full elements i d l k s =
     let v : Averaged L (length members) = record { some = some_members L; list = near.group; closed = closed_of_sub members group near.group near.is_group; average = a; is_mean = near.mean } in
     let e : Map = get_or set i d in
     let c = (full.exactly e).0 (Contains-get_or set i d l) in
-    shift_within e a.t k (length members) (some_members L) (narrow_element members group e c.0) (near_translation members group a near) (c.1 (point_at (length members) (some_members L) a) (in_image (length members) (some_members L) a (number v) (idempotent_itself v))) s
+    fixing_shift_small e a.t k (length members) (some_members L) (narrow_element members group e c.0) (near_translation members group a near) (c.1 (point_at (length members) (some_members L) a) (in_image (length members) (some_members L) a (number v) (idempotent_itself v))) s
 
 -- whatever the number of members
 pub near_limit : (members : List Operator) → IsGroup members → (a : Block) → IsAverageNearOrigin members a → AreWithin (MAX_OPERATORS * (UNIT * (MAX_NEAR_SHIFT + 1))) a.t.x a.t.y a.t.z

@@ -1,4 +1,3 @@
-pub use Rattle.space_groups.specs.Rows
 pub mod Shown
 pub mod Table
 pub mod Steps

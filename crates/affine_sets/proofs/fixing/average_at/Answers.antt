@@ -9,6 +9,7 @@ use Rattle.site_symmetry.proofs.Shifts.{operator_of_member}
 use Rattle.site_symmetry.proofs.FixingLists.{none_fixing, one_more, no_more, all_fixing}
 use Rattle.affine_sets.proofs.Groups.{mean_from_sum}
 use Rattle.affine_sets.proofs.SitesOfPoints.{site_sub, summed_small, summed_more}
+use Rattle.affine_sets.proofs.CellAverages.{cell_average}
 use Rattle.affine_sets.proofs.fixing.average_at.Goals as goal
 use Rattle.affine_sets.proofs.fixing.average_at.Goals.{in-Some, in_default}
 
@@ -51,6 +52,13 @@ pub returns-clause-special : goal.returns-clause-special
 returns-clause-special c =
     let s = all_fixing c.args.g.now (point_in c.args.p.now) c.loop-i.i c.loop-i.invariant.list (omega arith) c.loop-i.invariant.fixing in
     record { site = c.loop-i.invariant.list; is_site = s.site; mean = mean_from_sum (length c.args.g.now) c.loop-i.invariant.list c.loop-i.sum c.average.result c.loop-i.invariant.sum c.average.ensures.value }
+
+pub returns-clause-average : goal.returns-clause-average
+returns-clause-average c =
+    let list = c.loop-i.invariant.list in
+    let site = (all_fixing c.args.g.now (point_in c.args.p.now) c.loop-i.i list (omega arith) c.loop-i.invariant.fixing).site in
+    let mean = mean_from_sum (length c.args.g.now) list c.loop-i.sum c.average.result c.loop-i.invariant.sum c.average.ensures.value in
+    λ inside. cell_average c.args.g.now c.len-i-end.ensures.group (point_in c.args.p.now) c.average.result c.args.p.now.in_range.positive inside (record { site = list; is_site = site; mean = mean })
 
 pub returns-clause-group : goal.returns-clause-group
 returns-clause-group c = c.len-i-end.ensures.group

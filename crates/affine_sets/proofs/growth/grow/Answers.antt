@@ -1,4 +1,4 @@
-use Rattle.std.proofs.Common.{◌∷◌, length, map, ap, sym, subst, arith}
+use Rattle.std.proofs.Common.{◌≡◌, ◌∷◌, length, map, ap, sym, subst, arith}
 use Rattle.std.proofs.lemmas.List.{length-map}
 use Rattle.std.proofs.lemmas.List.Elements.{All-cons}
 use Rattle.std.proofs.lemmas.Option.{slice_get_within}
@@ -8,11 +8,22 @@ use Rattle.exact_ops.specs.Elements.{map_in}
 use Rattle.space_groups.specs.Space.{IsElement}
 use Rattle.group_closure.proofs.Places.{some_member}
 use Rattle.affine_sets.specs.declared.TheConstants.{MAX_GROWN_SHIFT}
-use Rattle.affine_sets.specs.Growth.{placed_map, AreHeld, IsTorn}
-use Rattle.affine_sets.specs.Subs.{IsSubList}
+use Rattle.affine_sets.specs.Growth.{placed_map, given_maps, AreHeld, IsTorn}
+use Rattle.affine_sets.specs.Subs.{IsSubList, AreElements}
 use Rattle.affine_sets.proofs.FirstBlock.{none_held, are_at, are_old, begun, first_shift, rest_shifts, shift_within}
-use Rattle.affine_sets.proofs.GrownGroups.{first_products, given_are, torn_fixes_none, has_grown, grown_elements, grown_generated, grown_sub}
+use Rattle.affine_sets.proofs.GrownGroups.{HasGrown, first_products, given_are, torn_fixes_none, has_grown, grown_elements, grown_generated, grown_sub}
+use Rattle.affine_sets.proofs.growth.grow.Goals.{After-put_all, After-list_held}
 use Rattle.affine_sets.proofs.growth.grow.Goals as goal
+
+-- the given elements, and the group that has grown
+given : (c : After-put_all) → given_maps c.args.g.now c.deref.result.now c.with_place-e.result ≡ map_in c.args.e.now ∷ c.args.s.now
+given c = given_are c.args.g.now c.hold_elements.new.old.items c.deref.result.now c.with_place-e.result c.args.s.now (map_in c.args.e.now) c.deref.ensures.value c.hold_elements.ensures.maps c.with_place-e.ensures.value
+
+valid : (c : After-put_all) → AreElements c.args.g.now (map_in c.args.e.now ∷ c.args.s.now)
+valid c = All-cons (IsElement UNIT c.args.g.now) (map_in c.args.e.now) c.args.s.now c.requires.element c.requires.elements
+
+has : (c : After-list_held) → given_maps c.args.g.now c.deref.result.now c.with_place-e.result ≡ map_in c.args.e.now ∷ c.args.s.now → HasGrown c.args.g.now (map_in c.args.e.now ∷ c.args.s.now) c.put_all.new.held (map map_in c.list_held.new.moves.items)
+has c are = has_grown c.args.g.now c.deref.result.now c.put_all.new.firsts.items c.with_place-e.result (map_in c.args.e.now ∷ c.args.s.now) c.put_all.new.held (map map_in c.list_held.new.moves.items) are c.in-Ok-put_all.ensures.growing c.in-Ok-put_all.ensures.products c.in-Ok-put_all.ensures.closed c.list_held.ensures.listed
 
 pub hold_elements-requires-clause-group : goal.hold_elements-requires-clause-group
 hold_elements-requires-clause-group c = c.len-2.ensures.group
@@ -74,8 +85,8 @@ put_all-requires-clause-size c =
 
 pub returns-in_default-put_all-clause-none : goal.returns-in_default-put_all-clause-none
 returns-in_default-put_all-clause-none c =
-    let given = given_are c.args.g.now c.hold_elements.new.old.items c.deref.result.now c.with_place-e.result c.args.s.now (map_in c.args.e.now) c.deref.ensures.value c.hold_elements.ensures.maps c.with_place-e.ensures.value in
-    torn_fixes_none c.args.g.now c.len-2.ensures.group (map_in c.args.e.now ∷ c.args.s.now) (All-cons (IsElement UNIT c.args.g.now) (map_in c.args.e.now) c.args.s.now c.requires.element c.requires.elements) (subst IsTorn given c.in_default-put_all.ensures.torn)
+    let at = goal.at.returns-in_default-put_all-clause-none c in
+    torn_fixes_none c.args.g.now c.len-2.ensures.group (map_in c.args.e.now ∷ c.args.s.now) (valid at.After-put_all) (subst IsTorn (given at.After-put_all) c.in_default-put_all.ensures.torn)
 
 pub list_held-requires-clause-room : goal.list_held-requires-clause-room
 list_held-requires-clause-room c = omega (arith, c.in-Ok-with_capacity-2.ensures.capacity, c.from-2.ensures, c.len-3.ensures.value)
@@ -89,23 +100,17 @@ list_held-requires-clause-small c = λ p k h. (c.in-Ok-put_all.ensures.growing.s
 pub invariant_of-result : goal.invariant_of-result
 invariant_of-result c =
     let list = map map_in c.list_held.new.moves.items in
-    let given = given_are c.args.g.now c.hold_elements.new.old.items c.deref.result.now c.with_place-e.result c.args.s.now (map_in c.args.e.now) c.deref.ensures.value c.hold_elements.ensures.maps c.with_place-e.ensures.value in
-    let has = has_grown c.args.g.now c.deref.result.now c.put_all.new.firsts.items c.with_place-e.result (map_in c.args.e.now ∷ c.args.s.now) c.put_all.new.held list given c.in-Ok-put_all.ensures.growing c.in-Ok-put_all.ensures.products c.in-Ok-put_all.ensures.closed c.list_held.ensures.listed in
-    let valid = All-cons (IsElement UNIT c.args.g.now) (map_in c.args.e.now) c.args.s.now c.requires.element c.requires.elements in
-    grown_sub c.args.g.now c.len-2.ensures.group (map_in c.args.e.now ∷ c.args.s.now) valid c.put_all.new.held list has (omega (arith, c.list_held.ensures.short, length-map c.list_held.new.moves.items map_in, c.len-2.ensures.group.within))
+    let at = goal.at.invariant_of-result c in
+    grown_sub c.args.g.now c.len-2.ensures.group (map_in c.args.e.now ∷ c.args.s.now) (valid at.After-put_all) c.put_all.new.held list (has at.After-list_held (given at.After-put_all)) (omega (arith, c.list_held.ensures.short, length-map c.list_held.new.moves.items map_in, c.len-2.ensures.group.within))
 
 pub returns-clause-some : goal.returns-clause-some
 returns-clause-some c =
     let list = map map_in c.list_held.new.moves.items in
-    let given = given_are c.args.g.now c.hold_elements.new.old.items c.deref.result.now c.with_place-e.result c.args.s.now (map_in c.args.e.now) c.deref.ensures.value c.hold_elements.ensures.maps c.with_place-e.ensures.value in
-    let has = has_grown c.args.g.now c.deref.result.now c.put_all.new.firsts.items c.with_place-e.result (map_in c.args.e.now ∷ c.args.s.now) c.put_all.new.held list given c.in-Ok-put_all.ensures.growing c.in-Ok-put_all.ensures.products c.in-Ok-put_all.ensures.closed c.list_held.ensures.listed in
-    let valid = All-cons (IsElement UNIT c.args.g.now) (map_in c.args.e.now) c.args.s.now c.requires.element c.requires.elements in
-    grown_generated c.args.g.now c.len-2.ensures.group (map_in c.args.e.now ∷ c.args.s.now) valid c.put_all.new.held list has
+    let at = goal.at.returns-clause-some c in
+    grown_generated c.args.g.now c.len-2.ensures.group (map_in c.args.e.now ∷ c.args.s.now) (valid at.After-put_all) c.put_all.new.held list (has at.After-list_held (given at.After-put_all))
 
 pub returns-clause-elements : goal.returns-clause-elements
 returns-clause-elements c =
     let list = map map_in c.list_held.new.moves.items in
-    let given = given_are c.args.g.now c.hold_elements.new.old.items c.deref.result.now c.with_place-e.result c.args.s.now (map_in c.args.e.now) c.deref.ensures.value c.hold_elements.ensures.maps c.with_place-e.ensures.value in
-    let has = has_grown c.args.g.now c.deref.result.now c.put_all.new.firsts.items c.with_place-e.result (map_in c.args.e.now ∷ c.args.s.now) c.put_all.new.held list given c.in-Ok-put_all.ensures.growing c.in-Ok-put_all.ensures.products c.in-Ok-put_all.ensures.closed c.list_held.ensures.listed in
-    let valid = All-cons (IsElement UNIT c.args.g.now) (map_in c.args.e.now) c.args.s.now c.requires.element c.requires.elements in
-    grown_elements c.args.g.now c.len-2.ensures.group (map_in c.args.e.now ∷ c.args.s.now) valid c.put_all.new.held list has
+    let at = goal.at.returns-clause-elements c in
+    grown_elements c.args.g.now c.len-2.ensures.group (map_in c.args.e.now ∷ c.args.s.now) (valid at.After-put_all) c.put_all.new.held list (has at.After-list_held (given at.After-put_all))

@@ -2,17 +2,15 @@ use Rattle.std.proofs.Common.{◌≡◌, ◌∙◌, Contains, Some, map, slice_g
 use Rattle.std.proofs.lemmas.Option.{slice_get_within}
 use Rattle.lattice_algebra.specs.Operator.{identity_operator}
 use Rattle.exact_ops.specs.Numbers.{point_in}
-use Rattle.orbit_map.specs.Steps.{IsPlaced}
+use Rattle.orbit_map.specs.Placed.{IsPlaced}
 use Rattle.space_groups.specs.Rows.{Row}
 use Rattle.wyckoff_rows.specs.Shown.{row_in}
 use Rattle.wyckoff_rows.proofs.Lists.{contains_at}
-use Rattle.wyckoff_rows.proofs.RowOfPoint.{cell_average, placed_conjugate, row_of_point, fits_row, fits_at, row_at}
+use Rattle.wyckoff_rows.proofs.RowOfPoint.{placed_conjugate, row_of_point, fits_row, fits_at, row_at}
 use Rattle.wyckoff_rows.proofs.fitting.fit.Goals as goal
 
 pub key-key-requires : goal.key-key-requires
-key-key-requires c =
-    let near = c.image_in_cell-near in
-    cell_average c.args.g.now c.average_at.ensures.group (point_in near.result) c.average_at.result near.result.in_range.positive near.ensures.placed.in_cell c.average_at.ensures.special
+key-key-requires c = c.average_at.ensures.average c.image_in_cell-near.ensures.placed.in_cell
 
 pub place_in-requires : goal.place_in-requires
 place_in-requires c =

@@ -5,7 +5,8 @@ use Rattle.lattice_algebra.specs.Operator.{HasEntriesWithin}
 use Rattle.lattice_algebra.proofs.Machine.{back}
 use Rattle.exact_ops.specs.Fields.{matrix_in}
 use Rattle.wyckoff_rows.specs.Spanning.{AreEnough}
-use Rattle.wyckoff_rows.proofs.Columns.{over_is, read_entries, columns_span, AreMultiples, multiple_kept}
+use Rattle.wyckoff_rows.proofs.Columns.{AreWholeEntries, over_is, passed_matrix, read_entries, columns_span, AreMultiples, multiple_kept}
+use Rattle.wyckoff_rows.proofs.spans.whole_columns.Goals.{After-spanning_sizes-q}
 use Rattle.wyckoff_rows.proofs.spans.whole_columns.Goals as goal
 
 pub spanning_sizes-q-requires-clause-idempotent : goal.spanning_sizes-q-requires-clause-idempotent
@@ -15,32 +16,35 @@ spanning_sizes-q-requires-clause-idempotent c =
     let is = c.of-m.ensures ∙ ap matrix_of c.m.ensures.value in
     ap (λ v. v · v) is ∙ matrix_part s c.over-over.ensures.special.idempotent ∙ ap (λ k. scaled k s.m) (sym c.over-over.ensures.value) ∙ ap (scaled (pos n)) (sym is)
 
+entries : (c : After-spanning_sizes-q) → AreWholeEntries c.spanning_sizes-q.result (passed_matrix (matrix_in c.of-m.result)) c.over-over.result
+entries c = read_entries c.args.s.now c.spanning_sizes-q.result (matrix_in c.of-m.result) c.over-over.result (c.of-m.ensures ∙ ap matrix_of c.m.ensures.value) c.over-over.ensures.special c.over-over.ensures.value c.spanning_sizes-q.ensures.whole
+
 pub whole_entry-requires-clause-whole : goal.whole_entry-requires-clause-whole
-whole_entry-requires-clause-whole c = (read_entries c.args.s.now c.spanning_sizes-q.result (matrix_in c.of-m.result) c.over-over.result (c.of-m.ensures ∙ ap matrix_of c.m.ensures.value) c.over-over.ensures.special c.over-over.ensures.value c.spanning_sizes-q.ensures.whole).xx
+whole_entry-requires-clause-whole c = (entries (goal.at.whole_entry-requires-clause-whole c).After-spanning_sizes-q).xx
 
 pub whole_entry-requires-2-clause-whole : goal.whole_entry-requires-2-clause-whole
-whole_entry-requires-2-clause-whole c = (read_entries c.args.s.now c.spanning_sizes-q.result (matrix_in c.of-m.result) c.over-over.result (c.of-m.ensures ∙ ap matrix_of c.m.ensures.value) c.over-over.ensures.special c.over-over.ensures.value c.spanning_sizes-q.ensures.whole).xy
+whole_entry-requires-2-clause-whole c = (entries (goal.at.whole_entry-requires-2-clause-whole c).After-spanning_sizes-q).xy
 
 pub whole_entry-requires-3-clause-whole : goal.whole_entry-requires-3-clause-whole
-whole_entry-requires-3-clause-whole c = (read_entries c.args.s.now c.spanning_sizes-q.result (matrix_in c.of-m.result) c.over-over.result (c.of-m.ensures ∙ ap matrix_of c.m.ensures.value) c.over-over.ensures.special c.over-over.ensures.value c.spanning_sizes-q.ensures.whole).xz
+whole_entry-requires-3-clause-whole c = (entries (goal.at.whole_entry-requires-3-clause-whole c).After-spanning_sizes-q).xz
 
 pub whole_entry-requires-4-clause-whole : goal.whole_entry-requires-4-clause-whole
-whole_entry-requires-4-clause-whole c = (read_entries c.args.s.now c.spanning_sizes-q.result (matrix_in c.of-m.result) c.over-over.result (c.of-m.ensures ∙ ap matrix_of c.m.ensures.value) c.over-over.ensures.special c.over-over.ensures.value c.spanning_sizes-q.ensures.whole).yx
+whole_entry-requires-4-clause-whole c = (entries (goal.at.whole_entry-requires-4-clause-whole c).After-spanning_sizes-q).yx
 
 pub whole_entry-requires-5-clause-whole : goal.whole_entry-requires-5-clause-whole
-whole_entry-requires-5-clause-whole c = (read_entries c.args.s.now c.spanning_sizes-q.result (matrix_in c.of-m.result) c.over-over.result (c.of-m.ensures ∙ ap matrix_of c.m.ensures.value) c.over-over.ensures.special c.over-over.ensures.value c.spanning_sizes-q.ensures.whole).yy
+whole_entry-requires-5-clause-whole c = (entries (goal.at.whole_entry-requires-5-clause-whole c).After-spanning_sizes-q).yy
 
 pub whole_entry-requires-6-clause-whole : goal.whole_entry-requires-6-clause-whole
-whole_entry-requires-6-clause-whole c = (read_entries c.args.s.now c.spanning_sizes-q.result (matrix_in c.of-m.result) c.over-over.result (c.of-m.ensures ∙ ap matrix_of c.m.ensures.value) c.over-over.ensures.special c.over-over.ensures.value c.spanning_sizes-q.ensures.whole).yz
+whole_entry-requires-6-clause-whole c = (entries (goal.at.whole_entry-requires-6-clause-whole c).After-spanning_sizes-q).yz
 
 pub whole_entry-requires-7-clause-whole : goal.whole_entry-requires-7-clause-whole
-whole_entry-requires-7-clause-whole c = (read_entries c.args.s.now c.spanning_sizes-q.result (matrix_in c.of-m.result) c.over-over.result (c.of-m.ensures ∙ ap matrix_of c.m.ensures.value) c.over-over.ensures.special c.over-over.ensures.value c.spanning_sizes-q.ensures.whole).zx
+whole_entry-requires-7-clause-whole c = (entries (goal.at.whole_entry-requires-7-clause-whole c).After-spanning_sizes-q).zx
 
 pub whole_entry-requires-8-clause-whole : goal.whole_entry-requires-8-clause-whole
-whole_entry-requires-8-clause-whole c = (read_entries c.args.s.now c.spanning_sizes-q.result (matrix_in c.of-m.result) c.over-over.result (c.of-m.ensures ∙ ap matrix_of c.m.ensures.value) c.over-over.ensures.special c.over-over.ensures.value c.spanning_sizes-q.ensures.whole).zy
+whole_entry-requires-8-clause-whole c = (entries (goal.at.whole_entry-requires-8-clause-whole c).After-spanning_sizes-q).zy
 
 pub whole_entry-requires-9-clause-whole : goal.whole_entry-requires-9-clause-whole
-whole_entry-requires-9-clause-whole c = (read_entries c.args.s.now c.spanning_sizes-q.result (matrix_in c.of-m.result) c.over-over.result (c.of-m.ensures ∙ ap matrix_of c.m.ensures.value) c.over-over.ensures.special c.over-over.ensures.value c.spanning_sizes-q.ensures.whole).zz
+whole_entry-requires-9-clause-whole c = (entries (goal.at.whole_entry-requires-9-clause-whole c).After-spanning_sizes-q).zz
 
 pub returns-clause-spans : goal.returns-clause-spans
 returns-clause-spans c =
