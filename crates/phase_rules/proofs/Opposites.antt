@@ -17,7 +17,7 @@ use Rattle.lattice_algebra.proofs.Ring.{con}
 use Rattle.exact_ops.specs.Narrow.{IsNarrow}
 use Rattle.exact_ops.specs.declared.TheConstants.{UNIT}
 use Rattle.group_closure.specs.GroupList.{IsGroup}
-use Rattle.group_closure.specs.Runs.{IsFirstWith}
+use Rattle.group_closure.specs.Runs.{HasMatrix, IsFirstWith}
 use Rattle.group_closure.proofs.OneMatrix.{rows_at, rows_later}
 use Rattle.group_closure.proofs.Places.{same_at, product_member, contains_at, some_at}
 use Rattle.phase_rules.specs.declared.tallies.Tally.{Tally}
@@ -133,6 +133,14 @@ module _ (members : List Operator) (group : IsGroup members) where
       let one : g.0 ≡ identity_operator = same_at members g.0 identity_operator 0 (ap (λ n. slice_get members n) (sym z) ∙ g.1) group.first in
       below_opposite_of_identity f.w (sym opposite ∙ ap (λ (x : Operator). x.w) one))
       (cases_lt 0 j))
+
+-- where a matrix is first met at place i or later, no member before place i has it
+pub not_before : (members : List Operator) (m : Matrix) (i j : ℕ) → IsFirstWith members m j → i ≤ j → HasMatrix (take i members) m → ⊥
+not_before members m i j first l h =
+    let p = h.1 in
+    let k : p.0 < i = omega (arith, p.1, length-take i members) in
+    let at : slice_get members p.0 ≡ Some h.0 = slice_get-get_or members p.0 h.0 (omega (arith, p.1, length-take i members)) ∙ ap Some (sym (get_or-take i members p.0 h.0 k) ∙ p.2) in
+    first.before p.0 h.0 (omega (arith, k, l)) at h.2
 
 -- ---- opposite matrices
 

@@ -16,6 +16,10 @@ IsBelow xs = slice_cmp int_cmp xs (map (λ (x : ℤ). pos 0) xs) ≡ Less
 abbrev pub AreBelow : List Operator → ℕ → Type 0
 AreBelow members i = (k : ℕ) (g : Operator) → i ≤ k → slice_get members k ≡ Some g → IsBelow (entries g.w)
 
+-- no member before place i has the opposite of the matrix there
+abbrev pub HasNoEarlierOpposite : List Operator → ℕ → Type 0
+HasNoEarlierOpposite members i = (f : Operator) → slice_get members i ≡ Some f → ¬ HasMatrix (take i members) (scaled (negsuc 0) f.w)
+
 -- each member from place i on has the opposite matrix of one before it
 abbrev pub HaveOpposites : List Operator → ℕ → Type 0
 HaveOpposites members i = (k : ℕ) (g : Operator) → i ≤ k → slice_get members k ≡ Some g → HasMatrix (take i members) (scaled (negsuc 0) g.w)

@@ -10,7 +10,7 @@ use Rattle.phase_rules.specs.declared.parts.Mark.{Mark}
 use Rattle.phase_rules.specs.declared.parts.Mark.TheVariants.{Absent, Free, Phase}
 use Rattle.phase_rules.specs.Rows.{Row, ◌·ʳ◌, ◌·ʳᶜ◌, neg_row}
 
--- what the operator (W, t) adds to the phase of h: h.t modulo a cell, counted in parts of a cell
+-- how far the phase of h W is behind that of h, for the operator (W, t): h.t modulo a cell, counted in parts of a cell
 abbrev pub phase_shift : Row → Operator → ℤ
 phase_shift h f = int_rem_euclid (h ·ʳᶜ f.t) (pos UNIT)
 

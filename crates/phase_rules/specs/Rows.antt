@@ -1,5 +1,5 @@
 -- Rows of three whole numbers, the indices of reflections, beside matrices and columns.
--- International Tables B: a symmetry operation (W, t) takes the index row h to h W, and shifts its phase by h.t.
+-- International Tables B: a symmetry operation (W, t) takes the index row h to h W, whose phase is that of h less h.t.
 use Rattle.std.specs.Prelude.{ℤ, pos, neg_ℤ, Bool, ◌&&◌, List, slice_index_or}
 use Rattle.std.specs.Ordering.{int_eq}
 use Rattle.lattice_algebra.specs.Matrix.{Matrix, Column, sum_of_products}

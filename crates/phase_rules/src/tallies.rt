@@ -179,7 +179,7 @@ impl Tally {
     }
 }
 
-/// What the operator adds to the phase of the index, in parts of a cell.
+/// How far the phase of h W is behind that of the index h, in parts of a cell.
 fn phase_of(index: &Index, op: &Op) -> u8
     ensures { phase_shift index.now op.now ≡ pos result }
 {
