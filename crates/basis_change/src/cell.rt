@@ -142,7 +142,11 @@ fn recell_by(alloc: Global, group: &Group, frame: &Frame) -> Result<Group, Recel
 }
 
 /// The group that the changed operators of the generators generate.
-pub fn close_changed(alloc: Global, group: &Group, frame: &Frame) -> Result<Group, CloseFault>
+pub(crate) fn close_changed(
+    alloc: Global,
+    group: &Group,
+    frame: &Frame,
+) -> Result<Group, CloseFault>
     requires frame { IsFrame frame.now }
     requires cell { IsCell PARTS group.now (change_in frame.now) }
     requires narrow { AreNarrow PARTS group.now (change_in frame.now) }

@@ -1,4 +1,4 @@
-ghost use Rattle.std.specs.Prelude.{◌≡◌, ◌≤◌, ◌*◌, ◌-◌, ◌^◌, ◌↔◌, ◌+ℤ◌, ◌*ℤ◌, unsigned_abs, IsTrue};
+ghost use Rattle.std.specs.Prelude.{◌≡◌, ◌≤◌, ◌+◌, ◌*◌, ◌-◌, ◌^◌, ◌↔◌, ◌+ℤ◌, ◌*ℤ◌, unsigned_abs, IsTrue};
 ghost use Rattle.lattice_algebra.specs.Matrix.{sum_of_products};
 ghost use Rattle.lattice_algebra.specs.Operator.{AreParts, AreWithin, HasEntriesWithin};
 ghost use Rattle.lattice_algebra.specs.Map.{map_of};
@@ -33,7 +33,9 @@ fn coordinate(a: i32, b: i32, c: i32, t: i32, x: i128, y: i128, z: i128, part: i
     requires translation { unsigned_abs t ≤ PARTS - 1 }
     requires point { AreWithin (LIMIT * (PARTS * MAX_DENOMINATOR ^ 3)) x y z }
     requires part { unsigned_abs part ≤ MAX_DENOMINATOR ^ 3 }
-    ensures { result ≡ sum_of_products a b c x y z +ℤ t *ℤ part }
+    ensures value { result ≡ sum_of_products a b c x y z +ℤ t *ℤ part }
+    ensures size { unsigned_abs result
+        ≤ (3 * MAX_ENTRY * LIMIT * PARTS + PARTS - 1) * MAX_DENOMINATOR ^ 3 }
 {
     let a = i128::from(a);
     let b = i128::from(b);

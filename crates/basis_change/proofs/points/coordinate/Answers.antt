@@ -1,7 +1,7 @@
 use Rattle.std.proofs.Common.{◌≡◌, ◌-◌, ◌^◌, ap, sym, subst, ◌∙◌, List, ℕ, ℤ, [], ◌∷◌}
 use mir.Syntax.{w128}
 use Rattle.lattice_algebra.proofs.Ring.{Expr, var, ◌⊕◌, ◌⊗◌, value}
-use Rattle.lattice_algebra.proofs.Machine.{IsWithin, fits, computed, widened}
+use Rattle.lattice_algebra.proofs.Machine.{IsWithin, fits, computed, computed-size, widened}
 use Rattle.exact_ops.specs.declared.TheConstants.{UNIT, MAX_ENTRY, MAX_DENOMINATOR}
 use Rattle.exact_ops.proofs.Bounds.{numerator_bound}
 use Rattle.basis_change.proofs.points.coordinate.Goals as goal
@@ -51,5 +51,8 @@ overflow_mul-result-4 c = fits w128 bounds (numbers c) (var 3 ⊗ var 7) (within
 pub overflow_add-result-3 : goal.overflow_add-result-3
 overflow_add-result-3 c = fits w128 bounds (numbers c) four (within c) tt
 
-pub returns : goal.returns
-returns c = computed w128 bounds (numbers c) four (within c) tt ∙ ap (λ r. value r four) (same_numbers c)
+pub returns-clause-value : goal.returns-clause-value
+returns-clause-value c = computed w128 bounds (numbers c) four (within c) tt ∙ ap (λ r. value r four) (same_numbers c)
+
+pub returns-clause-size : goal.returns-clause-size
+returns-clause-size c = computed-size w128 bounds (numbers c) four (within c) tt

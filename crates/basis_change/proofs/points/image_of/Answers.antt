@@ -48,4 +48,4 @@ coordinate-requires-3-clause-part c = kept_part (point_in c.args.point.now) c.fr
 pub returns : goal.returns
 returns c =
     let k : (FitsSigned w128 c.coordinate.result) × (FitsSigned w128 c.coordinate-2.result) × (FitsSigned w128 c.coordinate-3.result) = search rules in
-    image_computed (operator_in c.args.w.now c.args.t.now) (point_in c.args.point.now) c.from.result _ _ _ c.requires.within c.requires.in_cell c.args.point.now.in_range c.from.ensures k c.coordinate.ensures c.coordinate-2.ensures c.coordinate-3.ensures
+    image_computed (operator_in c.args.w.now c.args.t.now) (point_in c.args.point.now) c.from.result _ _ _ c.requires.within c.requires.in_cell c.args.point.now.in_range c.from.ensures k c.coordinate.ensures.value c.coordinate-2.ensures.value c.coordinate-3.ensures.value
