@@ -1,13 +1,14 @@
 -- Worked examples: the definitions that no test of a function shows by itself, on literals.
-use Rattle.std.proofs.Common.{◌≡◌, ℕ, zero, suc, ◌≤◌, ◌⊎◌, inl, inr, ⊎_elim, ◌*◌, ℤ, pos, negsuc, ◌*ℤ◌, unsigned_abs, ap, sym, subst, refl, arith}
-use Rattle.std.proofs.lemmas.Int.{ints}
-use Rattle.lattice_algebra.specs.Matrix.{Matrix, Column, identity, ◌·◌, ◌·ᶜ◌, ◌+ᶜ◌, ◌+ᵐ◌, times}
+use Rattle.std.proofs.Common.{◌≡◌, ℕ, zero, suc, ◌≤◌, ◌⊎◌, inl, inr, ⊎_elim, ◌*◌, ℤ, pos, negsuc, ◌+ℤ◌, ◌*ℤ◌, unsigned_abs, ap, sym, ◌∙◌, subst, refl, arith, mul-le-mul, le_refl}
+use Rattle.std.proofs.lemmas.Int.{ints, unsigned_abs-mul}
+use Rattle.lattice_algebra.specs.Matrix.{Matrix, Column, identity, det, scaled, ◌·◌, ◌·ᶜ◌, ◌+ᶜ◌, ◌+ᵐ◌, times}
 use Rattle.lattice_algebra.specs.Operator.{Operator, HasEntriesWithin, AreWithin}
 use Rattle.lattice_algebra.specs.Map.{◌∘◌, map_of}
 use Rattle.lattice_algebra.specs.Powers.{power, sum_of_powers, IsOrder}
 use Rattle.lattice_algebra.proofs.Examples.{column, minus, inversion, threefold, its_order}
 use Rattle.exact_ops.specs.declared.TheConstants.{UNIT}
-use Rattle.op_types.specs.Axis.{IsMultiple, IsDirected, HasNoDivisor}
+use Rattle.op_types.specs.ProperPart.{IsProper, IsProperPart}
+use Rattle.op_types.specs.Axis.{IsMultiple, IsAlong, IsDirected, HasNoDivisor, IsAxis}
 use Rattle.op_types.specs.SmallPowers.{HasSmallPowers}
 use Rattle.op_types.specs.IntrinsicPart.{IsIntrinsicPart, repeated}
 use Rattle.op_types.specs.Vector.{AreParallel, Divides, IsImage, x_column_of, y_column_of, z_column_of}
@@ -48,6 +49,24 @@ not_screw_part h =
     let z : negsuc 71 ≡ pos 144 = e in
     omega (arith, ints)
 
+-- ---- proper parts
+
+proper : IsProper threefold
+unfolding det
+proper = omega (arith, ints)
+
+not_proper : IsProper inversion → ⊥
+unfolding det
+not_proper p = omega (arith, ints, p)
+
+-- that of the inversion is the identity
+proper_part : IsProperPart inversion identity
+unfolding scaled
+proper_part = record { same = λ p. absurd (not_proper p); opposite_of = λ n. refl }
+
+not_proper_part : IsProperPart threefold identity → ⊥
+not_proper_part h = let e : pos 1 ≡ o = ap (λ (m : Matrix). m.xx) (h.same proper) in omega (arith, ints)
+
 -- ---- axes
 
 -- -6,-3,0 is a multiple of 2,1,0, and 1,2,0 is none
@@ -74,6 +93,47 @@ not_directed (inr (e, inr r)) = let y : minus ≡ o = r.0 in omega (arith, ints)
 has_divisor : HasNoDivisor (column (pos 2) (pos 4) o) → ⊥
 unfolding times
 has_divisor h = let l : 2 ≤ 1 = h 2 (column (pos 1) (pos 2) o) refl in omega arith
+
+-- -y,x-y,z fixes the multiples of 0,0,1
+along : IsAlong threefold (column o o (pos 1))
+unfolding ◌·ᶜ◌ times
+along = record {
+  some = λ e. let z : pos 1 ≡ o = ap (λ (c : Column). c.z) e in omega (arith, ints);
+  fixed = refl;
+  all = λ c e.
+      let x : o *ℤ c.x +ℤ minus *ℤ c.y +ℤ o *ℤ c.z ≡ c.x = ap (λ (v : Column). v.x) e in
+      let y : pos 1 *ℤ c.x +ℤ minus *ℤ c.y +ℤ o *ℤ c.z ≡ c.y = ap (λ (v : Column). v.y) e in
+      (pos 1, c.z, (λ h. omega (arith, ints)), λ i. record { x = first c.x c.y c.z x y i; y = second c.x c.y c.z x y i; z = third c.z i });
+}
+  where
+    first : (x y z : ℤ) → o *ℤ x +ℤ minus *ℤ y +ℤ o *ℤ z ≡ x → pos 1 *ℤ x +ℤ minus *ℤ y +ℤ o *ℤ z ≡ y → pos 1 *ℤ x ≡ z *ℤ o
+    first x y z p q = omega (arith, ints, p, q)
+
+    second : (x y z : ℤ) → o *ℤ x +ℤ minus *ℤ y +ℤ o *ℤ z ≡ x → pos 1 *ℤ x +ℤ minus *ℤ y +ℤ o *ℤ z ≡ y → pos 1 *ℤ y ≡ z *ℤ o
+    second x y z p q = omega (arith, ints, p, q)
+
+    third : (z : ℤ) → pos 1 *ℤ z ≡ z *ℤ pos 1
+    third z = omega (arith, ints)
+
+-- the identity fixes more than the multiples of 1,0,0
+not_along : IsAlong identity (column (pos 1) o o) → ⊥
+unfolding ◌·ᶜ◌ times
+not_along l =
+    let k = l.all (column o (pos 1) o) refl in
+    let y : k.0 *ℤ pos 1 ≡ k.1 *ℤ o = ap (λ (c : Column). c.y) k.3 in
+    k.2 (omega (arith, ints, y))
+
+axis : IsAxis threefold (column o o (pos 1))
+unfolding times
+axis = record { along = along; no_divisor = λ d b e. one_factor d (unsigned_abs b.z) (ap (λ (c : Column). unsigned_abs c.z) e ∙ unsigned_abs-mul (pos d) b.z); directed = inr (refl, inr (refl, omega (arith, ints))) }
+  where
+    one_factor : (d k : ℕ) → 1 ≡ d * k → d ≤ 1
+    one_factor d zero e = absurd (omega (arith, e))
+    one_factor d (suc k) e = let l : d * 1 ≤ d * suc k = mul-le-mul (le_refl d) (omega arith) in omega (arith, e, l)
+
+not_axis : IsAxis threefold (column o o (pos 2)) → ⊥
+unfolding times
+not_axis a = let l : 2 ≤ 1 = a.no_divisor 2 (column o o (pos 1)) refl in omega arith
 
 -- ---- steps
 
