@@ -252,6 +252,18 @@ other_ways_to_call() {
     expect_texts 'through symbolic links' 0 'x,y,z\n' ''
 }
 
+# What the examples of long outputs leave open: how many classes are absent, and that the orbits fill the cell.
+numbers_of_long_outputs() {
+    call "$folder/groups/fm-3m.txt" refl 63 63 63
+    grep -c ' absent$' "$made/printed" >"$made/counted"
+    mv "$made/counted" "$made/printed"
+    expect_texts 'absent classes of Fm-3m' 0 '33792\n' ''
+    call "$folder/groups/fm-3m.txt" grid 128 128 128
+    awk '{ points += $4 } END { print points }' "$made/printed" >"$made/counted"
+    mv "$made/counted" "$made/printed"
+    expect_texts 'points of a grid of Fm-3m' 0 '2097152\n' ''
+}
+
 # ---- all of it
 
 "$sg" ops </dev/null >/dev/null
@@ -270,4 +282,5 @@ full_device
 closed_standard_error
 unread_input
 other_ways_to_call
+numbers_of_long_outputs
 finish

@@ -45,11 +45,14 @@ fail_each p21c.txt types
 fail_each p-1.txt site 1/2 0 0
 fail_each p6mmm.txt site 1/3 2/3 0
 fail_each p21c.txt wyckoff
+fail_each fm-3m.txt wyckoff
 fail_each p21c.txt fit 0 0 0
 fail_each p21c.txt table 1 1 1
 fail_each p21c.txt index 1 0 0
 fail_each p21c.txt refl 1 1 1
+fail_each p31.txt refl 0 0 6
 fail_each p-1.txt grid 3 2 1
+fail_each p41.txt grid 2 2 4
 fail_each p21c.txt basis x-z,y,z
 fail_each p-1.txt sample 1
 fail_each fm-3m.txt recell 1 -x+y+z,x-y+z,x+y-z

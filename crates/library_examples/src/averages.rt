@@ -124,5 +124,37 @@ fn group_of_an_inversion(rt: HostRuntime) -> Result<(), Fail> {
     let near = grown.near(rt.alloc(), &g)?;
     let far = grown_by_inversion(rt.alloc(), &near, &g, 0)?;
     assert_eq!(rt; far.is_none(), true);
+    let average = mean(&g, &near);
+    assert_eq!(rt; average.t(), [24, 0, 0]);
+    assert_eq!(rt; full(rt.alloc(), &g, &average)?.len(), 2);
+    let first = key(&g, &average);
+    assert_eq!(rt;
+        (first.m(), first.t(), first.over()),
+        ([0; 9], [24, 0, 0], 2)
+    );
+    let half = point_of([(1, 2), (0, 1), (0, 1)])?;
+    let beyond = point_of([(3, 2), (0, 1), (0, 1)])?;
+    assert_eq!(rt; holds(&g, &average, &half), true);
+    assert_eq!(rt; holds(&g, &average, &beyond), false);
+    Ok(())
+}
+
+/// That at 3/2,0,0 is moved to 1/2,0,0.
+#[test]
+fn group_of_a_far_inversion(rt: HostRuntime) -> Result<(), Fail> {
+    let g = group_of(rt.alloc(), &["-x,-y,-z"])?;
+    if g.len() != 2 {
+        return Err(Fail::new("not two members"));
+    }
+    let trivial = Sub::trivial(rt.alloc())?;
+    let grown = grown_by_inversion(rt.alloc(), &trivial, &g, 3)?.ok_or("no point")?;
+    assert_eq!(rt; mean(&g, &grown).t(), [72, 0, 0]);
+    let near = grown.near(rt.alloc(), &g)?;
+    if near.len() != 2 {
+        return Err(Fail::new("not two elements"));
+    }
+    assert_eq!(rt; near.get(0).shift, [0, 0, 0]);
+    assert_eq!(rt; near.get(1).shift, [1, 0, 0]);
+    assert_eq!(rt; near.get(1).op, g.op(1));
     Ok(())
 }

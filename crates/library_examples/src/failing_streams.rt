@@ -8,6 +8,19 @@ use std::test::Fail;
 
 const INVERSION: &[u8] = b"-x,-y,-z";
 
+/// The rows of P-1.
+const ROWS: &[u8] = b"\
+    1 2 x,y,z\n\
+    2 1 0,0,0\n\
+    3 1 0,0,1/2\n\
+    4 1 0,1/2,0\n\
+    5 1 0,1/2,1/2\n\
+    6 1 1/2,0,0\n\
+    7 1 1/2,0,1/2\n\
+    8 1 1/2,1/2,0\n\
+    9 1 1/2,1/2,1/2\n\
+";
+
 pub fn words_of(alloc: Global, texts: &[&str]) -> Result<Vec<String>, Fail> {
     let mut words = Vec::new(alloc);
     for text in texts {
@@ -29,7 +42,7 @@ fn sink_of(alloc: Global, piece: u32, call: u32) -> Result<MemSink, Fail>
     Ok(MemSink::new(alloc, piece, &[call]).ok().ok_or("memory")?)
 }
 
-/// `ops` over the source prints the text; or where there is none, reading fails, and that is told.
+/// `wyckoff` over the source prints the text; or where there is none, reading fails, and that is told.
 fn reads(
     rt: &impl Abort,
     alloc: Global,
@@ -38,7 +51,7 @@ fn reads(
 ) -> Result<(), Fail> {
     let mut out = NoFailSink::new(alloc, 100);
     let mut err = NoFailSink::new(alloc, 100);
-    let words = words_of(alloc, &["ops"])?;
+    let words = words_of(alloc, &["wyckoff"])?;
     let status = run(alloc, &words, &mut source, &mut out, &mut err);
     let (want, printed, told) = match text {
         Some(text) => (0, text, b"".as_slice()),
@@ -57,8 +70,7 @@ fn a_read_that_fails_is_status_3(rt: HostRuntime) -> Result<(), Fail> {
     for call in 0..9u32 {
         reads(&rt, alloc, source_of(alloc, INVERSION, 1, call)?, None)?;
     }
-    let group = b"x,y,z\n-x,-y,-z\n".as_slice();
-    reads(&rt, alloc, source_of(alloc, INVERSION, 1, 9)?, Some(group))?;
+    reads(&rt, alloc, source_of(alloc, INVERSION, 1, 9)?, Some(ROWS))?;
     reads(&rt, alloc, source_of(alloc, INVERSION, 5, 1)?, None)
 }
 
@@ -66,21 +78,13 @@ fn a_read_that_fails_is_status_3(rt: HostRuntime) -> Result<(), Fail> {
 fn an_empty_input_is_read_once(rt: HostRuntime) -> Result<(), Fail> {
     let alloc = rt.alloc();
     reads(&rt, alloc, source_of(alloc, b"", 5, 0)?, None)?;
-    reads(&rt, alloc, source_of(alloc, b"", 5, 1)?, Some(b"x,y,z\n"))
+    reads(
+        &rt,
+        alloc,
+        source_of(alloc, b"", 5, 1)?,
+        Some(b"1 1 x,y,z\n"),
+    )
 }
-
-/// The rows of P-1.
-const ROWS: &[u8] = b"\
-    1 2 x,y,z\n\
-    2 1 0,0,0\n\
-    3 1 0,0,1/2\n\
-    4 1 0,1/2,0\n\
-    5 1 0,1/2,1/2\n\
-    6 1 1/2,0,0\n\
-    7 1 1/2,0,1/2\n\
-    8 1 1/2,1/2,0\n\
-    9 1 1/2,1/2,1/2\n\
-";
 
 /// Words, an input, and what is printed.
 const TEXTS: [(&[&str], &[u8], &[u8]); 4] = [
@@ -109,20 +113,25 @@ const TEXTS: [(&[&str], &[u8], &[u8]); 4] = [
     (&["wyckoff"], INVERSION, ROWS),
 ];
 
-/// Each write takes a byte. What stands before the one that fails is printed.
+/// Each write takes a byte. What stands before the one that fails is printed, and all of the text where it would be one more.
 #[test]
 fn a_write_that_fails_is_status_4(rt: HostRuntime) -> Result<(), Fail> {
     let alloc = rt.alloc();
     for (texts, input, text) in TEXTS {
         let words = words_of(alloc, texts)?;
-        for call in 0..text.len() {
+        for call in 0..=text.len() {
             let mut source = source_of(alloc, input, 100, 100)?;
             let mut out = sink_of(alloc, 1, u32::try_from(call)?)?;
             let mut err = NoFailSink::new(alloc, 100);
             let status = run(alloc, &words, &mut source, &mut out, &mut err);
-            assert_eq!(rt; status, 4, "{words:?}, call {call}");
+            let (want, told) = if call < text.len() {
+                (4, b"sg: writing failed\n".as_slice())
+            } else {
+                (0, b"".as_slice())
+            };
+            assert_eq!(rt; status, want, "{words:?}, call {call}");
             assert_eq!(rt; out.held(), &text[..call], "{words:?}, call {call}");
-            assert_eq!(rt; err.held(), b"sg: writing failed\n".as_slice());
+            assert_eq!(rt; err.held(), told, "{words:?}, call {call}");
         }
     }
     Ok(())
@@ -143,17 +152,80 @@ fn rows_of_which_eight_bytes_were_taken(rt: HostRuntime) -> Result<(), Fail> {
     Ok(())
 }
 
+/// Words, an input that is refused, the status and the fault text.
+const REFUSED: [(&[&str], &[u8], u8, &[u8]); 14] = [
+    (
+        &["ops"],
+        b"x,y+1/2,z+1/2\nx+1/2,y,z+1/2\n-x,-y,z\n-x,y,-z\nz,x,y\ny,x,-z\n-x,-y,-z\nx+1/4,y,z",
+        7,
+        b"sg: operators do not close\n",
+    ),
+    (&["ops"], b"x+y,y,z", 7, b"sg: operators do not close\n"),
+    (&["ops"], b"x+3y,y,z", 7, b"sg: operators do not close\n"),
+    (&["ops"], b"2x,y,z", 6, b"sg: line 1: not unimodular\n"),
+    (&["ops"], b"x-x,y,z", 6, b"sg: line 1: not unimodular\n"),
+    (&["ops"], b"2x,y,z\nx,y", 6, b"sg: line 1: not unimodular\n"),
+    (&["ops"], b"x,y,z\nx,y", 5, b"sg: line 2: not a triplet\n"),
+    (
+        &["ops"],
+        b"x,y,z\nx,y,z,",
+        5,
+        b"sg: line 2: not a triplet\n",
+    ),
+    (
+        &["ops"],
+        b"x,y,z\nx+1/5,y,z",
+        5,
+        b"sg: line 2: not a triplet\n",
+    ),
+    (
+        &["ops"],
+        b"x,y,z\nx+0.333,y,z",
+        5,
+        b"sg: line 2: not a triplet\n",
+    ),
+    (
+        &["ops"],
+        b"x,y,z\n\n1 x,y,z",
+        5,
+        b"sg: line 3: not a triplet\n",
+    ),
+    (
+        &["grid", "4", "4", "6"],
+        b"-y,x,z+1/4",
+        8,
+        b"sg: grid is not kept\n",
+    ),
+    (
+        &["grid", "6", "4", "1"],
+        b"x-y,x,z",
+        8,
+        b"sg: grid is not kept\n",
+    ),
+    (
+        &["help"],
+        b"x,y,z",
+        2,
+        b"sg: words are not a command in range\n",
+    ),
+];
+
+/// Each write of the fault text takes a byte. What stands before the one that fails is told, and the status is the same.
 #[test]
 fn the_status_does_not_depend_on_the_fault_text(rt: HostRuntime) -> Result<(), Fail> {
     let alloc = rt.alloc();
-    let mut source = source_of(alloc, b"x,y,z\nx,y", 100, 100)?;
-    let mut out = NoFailSink::new(alloc, 100);
-    let mut err = sink_of(alloc, 100, 0)?;
-    let words = words_of(alloc, &["ops"])?;
-    let status = run(alloc, &words, &mut source, &mut out, &mut err);
-    assert_eq!(rt; status, 5);
-    assert_eq!(rt; out.held(), b"".as_slice());
-    assert_eq!(rt; err.held(), b"".as_slice());
+    for (texts, input, wanted, text) in REFUSED {
+        let words = words_of(alloc, texts)?;
+        for call in 0..=text.len() {
+            let mut source = source_of(alloc, input, 100, 100)?;
+            let mut out = NoFailSink::new(alloc, 100);
+            let mut err = sink_of(alloc, 1, u32::try_from(call)?)?;
+            let status = run(alloc, &words, &mut source, &mut out, &mut err);
+            assert_eq!(rt; status, wanted, "{input:?}, call {call}");
+            assert_eq!(rt; out.held(), b"".as_slice());
+            assert_eq!(rt; err.held(), &text[..call], "{input:?}, call {call}");
+        }
+    }
     Ok(())
 }
 
