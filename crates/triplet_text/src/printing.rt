@@ -9,8 +9,8 @@ use crate::fraction::{lowest_terms, print_frac};
 use crate::text::Text;
 use exact_ops::{MAX_SHIFT, Move, Op, UNIT};
 
-/// The numbers of an affine map are printed over at most this: as many as a group has members at most, since an average over
-/// the members has this denominator.
+/// The numbers of an affine map are printed over at most this: as many as a group has members at most, since the key of an
+/// average stands over their number.
 pub const OVER_LIMIT: u32 = 192;
 
 /// A constant of so many parts can be printed, on both sides of 0. That of a `Move` has at most `UNIT * MAX_SHIFT + UNIT - 1`.
