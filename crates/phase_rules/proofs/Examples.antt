@@ -18,7 +18,7 @@ use Rattle.phase_rules.specs.Rows.{Row, row_of, row_eq, ◌·ʳ◌, ◌·ʳᶜ�
 use Rattle.phase_rules.specs.Equivalent.{IsSameReflection, AreEquivalent, IsClass, fixes, reverses}
 use Rattle.phase_rules.specs.Marks.{phase_shift, IsAbsent, IsRestrictedTo, IsFree, IsMark}
 use Rattle.phase_rules.specs.Tallies.{IsTurn, AreTurned, HasReverser, IsTally}
-use Rattle.phase_rules.specs.Halves.{IsBelow, AreBelow, HaveOpposites}
+use Rattle.phase_rules.specs.Halves.{IsBelow, AreBelow, HasNoEarlierOpposite, HaveOpposites}
 
 abbrev o : ℤ
 o = pos 0
@@ -272,6 +272,13 @@ second_below (suc (suc k)) g l s = absurd (let m = slice_get_within both (suc (s
 
 first_not_below : AreBelow both 0 → ⊥
 first_not_below b = one_not_below (b 0 identity_operator (omega arith) refl)
+
+first_alone : HasNoEarlierOpposite both 0
+first_alone f e h = lists.not_in_nil h.0 h.1
+
+second_not_alone : HasNoEarlierOpposite both 1 → ⊥
+unfolding scaled
+second_not_alone n = n inverting refl (identity_operator, (0, omega arith, refl), refl)
 
 second_opposite : HaveOpposites both 1
 unfolding scaled

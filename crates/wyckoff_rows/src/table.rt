@@ -16,7 +16,7 @@ use group_closure::Group;
 use std::alloc::Global;
 use std::cmp::Ordering;
 
-/// The rows of the table of Wyckoff positions of the space group.
+/// The rows of the table of Wyckoff positions of the space group: those of more points in a cell first, then by their keys.
 pub fn rows(alloc: Global, g: &Group) -> Result<Rows, NoMemory>
     ensures table { IfOk result (λ rows. IsTableOf g.now rows) }
     ensures list { IfOk result (λ rows. IsRowList UNIT g.now rows) }
