@@ -54,7 +54,7 @@ HasNarrowMatrix c g = (m : Matrix) → m · c.w ≡ c.w · g.w → HasEntriesWit
 abbrev pub HasMap : CoordinateChange → Map → Type 0
 HasMap c g = (h : Map) × IsChanged c g h
 
--- the list has the operators of the changed maps, and no others
+-- the list has the operators of the changed maps, and none that is no operator of the changed group
 pub record AreChanged (members : List Operator) (c : CoordinateChange) (maps : List Map) (list : List Operator) : Type 0 where
   pub each : All (HasChanged UNIT c list) maps
   pub only : (f : Operator) → Contains list f → (h : Map) × IsInChanged UNIT members c h × (operator_of UNIT h ≡ f)

@@ -46,6 +46,13 @@ too_many r = omega (arith, r.few)
 too_great : IsBoxInRange (sizes 201 0 0) → ⊥
 too_great r = omega (arith, r.h)
 
+-- of all boxes of such sides 24 63 168 has the most indices within the limit, one less than it, and 33 56 138 the fewest beyond
+fullest : IsBoxInRange (sizes 24 63 168)
+fullest = record { h = omega arith; k = omega arith; l = omega arith; few = omega arith }
+
+too_full : IsBoxInRange (sizes 33 56 138) → ⊥
+too_full r = omega (arith, r.few)
+
 -- ---- the order of a box
 
 first_place : place_of (sizes 1 2 3) (index (pos 1) (pos 2) (pos 3)) ≡ 0
