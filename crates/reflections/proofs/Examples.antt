@@ -36,22 +36,18 @@ index h k l = record { h = h; k = k; l = l }
 
 -- ---- boxes within the limits
 
--- 200 200 6 has 401 times 401 times 13 indices, and 200 200 7 more than a box may have
 greatest : IsBoxInRange (sizes 200 200 6)
 greatest = record { h = omega arith; k = omega arith; l = omega arith; few = omega arith }
-
-too_many : IsBoxInRange (sizes 200 200 7) → ⊥
-too_many r = omega (arith, r.few)
 
 too_great : IsBoxInRange (sizes 201 0 0) → ⊥
 too_great r = omega (arith, r.h)
 
--- of all boxes of such sides 24 63 168 has the most indices within the limit, one less than it, and 33 56 138 the fewest beyond
+-- no box has more indices within the limit than 24 63 168, with 2,097,151, and none fewer beyond it than 33 56 138, with 2,097,167
 fullest : IsBoxInRange (sizes 24 63 168)
 fullest = record { h = omega arith; k = omega arith; l = omega arith; few = omega arith }
 
-too_full : IsBoxInRange (sizes 33 56 138) → ⊥
-too_full r = omega (arith, r.few)
+too_many : IsBoxInRange (sizes 33 56 138) → ⊥
+too_many r = omega (arith, r.few)
 
 -- ---- the order of a box
 
