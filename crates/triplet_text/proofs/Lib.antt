@@ -22,7 +22,10 @@ mod AffineBytes
 mod AffineUnique
 mod AffineValues
 mod AffineSame
+pub mod SaidLines
 pub mod LineSteps
 pub mod LineLaws
 mod Examples
 pub mod Decided
+pub mod Dividers
+pub mod PointTexts
