@@ -1,14 +1,13 @@
 -- Lines that are dividers, and the lines of an input before and after one.
-use Rattle.std.proofs.Common.{◌≡◌, ℕ, ◌+◌, ◌-◌, ◌≤◌, false, List, [], ◌∷◌, ◌++◌, length, take, drop, codes, eqb, Bool, IsTrue, ◌↔◌, Option, Some, None, Bor, MatchOption, inl, inr, sym, ap, subst, ◌∙◌, refl, arith, length-append, append_assoc}
+use Rattle.std.proofs.Common.{◌≡◌, ℕ, ◌+◌, ◌-◌, false, List, [], ◌∷◌, ◌++◌, length, take, drop, codes, eqb, Option, Some, None, Bor, MatchOption, inl, inr, sym, ap, subst, ◌∙◌, refl, arith, length-append, append_assoc}
 use Rattle.std.specs.List.{All}
 use Rattle.std.proofs.lemmas.List.{append-nil, take_at, drop_at, drop_all}
 use Rattle.std.proofs.lemmas.List.Elements.{All-nil, All-cons, All-append}
 use Rattle.std.proofs.lemmas.List.Splits.{slice_split_at, slice_split_none}
-use Rattle.triplet_text.specs.declared.parts.Split.{Split}
 use Rattle.triplet_text.specs.Bytes.{line_feed}
 use Rattle.triplet_text.specs.Pieces.{trim}
 use Rattle.triplet_text.specs.Lines.{lines_of}
-use Rattle.triplet_text.specs.Dividers.{IsDivider, percents, HasNoDivider, AreDivided, divided, whole, AreLinesOrNone, IsDividedAt, IsWhole, IsSplit}
+use Rattle.triplet_text.specs.Dividers.{IsDivider, percents, HasNoDivider, IsSplit}
 use Rattle.triplet_text.proofs.Texts.{trim_is, is_trimmed}
 
 -- ---- dividers

@@ -12,7 +12,7 @@ mod Written
 mod Trims
 mod Bounds
 mod Totals
-mod Cuts
+pub mod Cuts
 mod Rows
 pub mod CoordinateLaw
 pub mod IntegerLaw
