@@ -27,5 +27,6 @@ pub mod LineSteps
 pub mod LineLaws
 mod Examples
 pub mod Decided
-pub mod Dividers
+mod Dividers
+pub mod Divisions
 pub mod PointTexts

@@ -20,15 +20,11 @@ pub data AreDivided : List (List ℕ) → List (List ℕ) → List (List ℕ) �
 
 -- ---- in the bytes of an input
 
--- the text has these lines, and an empty one behind them
-abbrev pub AreLinesAndEnd : List (List ℕ) → List ℕ → Type 0
-AreLinesAndEnd lines text = lines_of text ≡ lines ++ [] ∷ []
-
--- the text has these lines, and is empty where there are none
+-- these are the lines of the text; or there are none, and the text is empty
 abbrev pub AreLinesOrNone : List (List ℕ) → List ℕ → Type 0
 AreLinesOrNone lines text = (lines_of text ≡ lines) ⊎ ((lines ≡ []) × (text ≡ []))
 
--- head is where the divider begins, so that a line feed ends the line before it, and tail where the line after it begins
+-- head is where the first divider begins: the last line feed before it is there already, with an empty line behind it; tail is where the next line begins, or the end
 pub record IsDividedAt (bytes : List ℕ) (split : Split) : Type 0 where
   pub head : List (List ℕ)
   pub divider : List ℕ
@@ -40,9 +36,9 @@ pub record IsDividedAt (bytes : List ℕ) (split : Split) : Type 0 where
   pub after : AreLinesOrNone tail (drop split.tail bytes)
   pub number : split.line ≡ length head + 2
 
--- no line is a divider: head and tail are the length of the bytes
+-- no line is a divider, and head and tail are the length of the bytes
 pub record IsWhole (bytes : List ℕ) (split : Split) : Type 0 where
-  pub first : HasNoDivider (lines_of bytes)
+  pub none : HasNoDivider (lines_of bytes)
   pub head : split.head ≡ length bytes
   pub tail : split.tail ≡ length bytes
   pub number : split.line ≡ length (lines_of bytes) + 1
