@@ -1,0 +1,3 @@
+mod SamePoints
+mod Places
+mod Orbits

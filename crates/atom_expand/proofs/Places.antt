@@ -1,0 +1,32 @@
+-- The first points of orbits, and the entries before a place.
+use Rattle.std.proofs.Common.{◌≡◌, ◌↔◌, ◌<◌, ◌∷◌, [], ℕ, Bool, IsTrue, List, length, get_or, Option, Some, None, slice_get, sym, ap, subst, ◌∙◌, refl}
+use Rattle.std.proofs.lemmas.Option.{slice_get_read}
+use Rattle.std.specs.Prelude.{IfNone}
+use Rattle.lattice_algebra.specs.Point.{Point, ◌≈◌}
+use Rattle.triplet_text.specs.Points.{ArePointTexts}
+use Rattle.data_lines.specs.Fields.{fields_of}
+use Rattle.atom_expand.specs.Sites.{AtomSite, IsAtomLine}
+use Rattle.atom_expand.specs.Steps.{BeginsWith}
+
+same_some : {A : Type 0} (x y : A) → Some x ≡ Some y → x ≡ y
+same_some x y e = cc
+
+pub begins_is : (points : List Point) (r p : Point) (b : Bool) → slice_get points 0 ≡ Some r → IsTrue b ↔ (r ≈ p) → IsTrue b ↔ BeginsWith p points
+begins_is points r p b e h = ((λ t. record { least = r; here = e; same = h.0 t }), (λ g. h.1 (subst (λ (v : Point). v ≈ p) (same_some g.least r (sym g.here ∙ e)) g.same)))
+
+pub if_none : {A P Q : Type 0} (o : Option A) → (P → Q) → IfNone o P → IfNone o Q
+if_none None f h = f h
+if_none (Some x) f h = tt
+
+-- an element that is read from the list
+pub read_at : {A : Type 0} (items list : List A) (k at : ℕ) (x y : A) → items ≡ list → at ≡ k → k < length list → x ≡ get_or items at x → x ≡ y → slice_get list k ≡ Some y
+read_at items list k at x y e f l g h = rw (sym e, sym f) (slice_get_read items (length items) at x refl (rw (e, f) l) g ∙ ap Some h)
+
+-- a line whose fields are no label and three coordinates
+pub no_site : (line label x y z : List ℕ) → fields_of line ≡ label ∷ x ∷ y ∷ z ∷ [] → ((p : Point) → ArePointTexts x y z p → ⊥) → (site : AtomSite) → IsAtomLine line site → ⊥
+no_site line label x y z e none site h =
+    let same : site.label ∷ h.x ∷ h.y ∷ h.z ∷ [] ≡ label ∷ x ∷ y ∷ z ∷ [] = sym h.fields ∙ e in
+    let a : h.x ≡ x = cc in
+    let b : h.y ≡ y = cc in
+    let c : h.z ≡ z = cc in
+    none site.at (subst (λ t. ArePointTexts x y t site.at) c (subst (λ t. ArePointTexts x t h.z site.at) b (subst (λ t. ArePointTexts t h.y h.z site.at) a h.at)))

@@ -1,0 +1,5 @@
+pub mod Labels
+pub mod Padding
+pub mod Sites
+pub mod Expansions
+pub mod Steps
