@@ -1,3 +1,5 @@
 mod SamePoints
 mod Places
-mod Orbits
+pub mod Orbits
+pub mod SiteLines
+mod Placing

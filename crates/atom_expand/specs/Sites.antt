@@ -5,6 +5,8 @@ use Rattle.exact_ops.specs.Numbers.{point_in}
 use Rattle.triplet_text.specs.Points.{ArePointTexts}
 use Rattle.data_lines.specs.Fields.{fields_of}
 use Rattle.data_lines.specs.DataLines.{AreWritten, IsFirstSuch, IsBadLine, IsWrittenLine}
+use Rattle.data_lines.specs.declared.read.DataFault as data_fault
+use Rattle.data_lines.specs.declared.read.DataFault.TheVariants as data_faults
 use Rattle.atom_expand.specs.declared.TheConstants.{MAX_ATOMS}
 use Rattle.atom_expand.specs.declared.atom.Atom.{Atom}
 use Rattle.atom_expand.specs.declared.atoms.AtomFault.{AtomFault}
@@ -44,3 +46,8 @@ abbrev pub IsAtomFaultOf : ℕ → List (List ℕ) → AtomFault → Type 0
 IsAtomFaultOf first lines (Bad k) = IsFirstSuch IsAtomLine (IsBadLine IsAtomLine) first lines k
 IsAtomFaultOf first lines Many = AreTooMany lines
 IsAtomFaultOf first lines NoMemory = (k : ℕ) × IsFirstSuch IsAtomLine (IsWrittenLine IsAtomLine) first lines k
+
+-- the fault of data lines, as one of sites
+abbrev pub atom_fault : data_fault.DataFault → AtomFault
+atom_fault (data_faults.Bad k) = Bad k
+atom_fault data_faults.NoMemory = NoMemory

@@ -1,7 +1,7 @@
 ghost use Rattle.std.specs.Prelude.{◌≡◌, ◌+◌, ◌≤◌, ◌<◌, Some, IfOk, IfErr, length, slice_get};
 ghost use Rattle.triplet_text.specs.Lines.{lines_of};
 ghost use Rattle.atom_expand.specs.declared.TheConstants.{MAX_ATOMS, MAX_BYTES};
-ghost use Rattle.atom_expand.specs.Sites.{site_in, AreAtomLines, IsAtomFaultOf};
+ghost use Rattle.atom_expand.specs.Sites.{site_in, AreAtomLines, IsAtomFaultOf, atom_fault};
 
 use crate::MAX_ATOMS;
 use crate::atom::Atom;
@@ -47,11 +47,21 @@ pub fn read_atoms(alloc: Global, bytes: &[u8], line: u32) -> Result<AtomList, At
     ensures within { IfOk result (λ atoms. length atoms ≤ MAX_ATOMS) }
     ensures fault { IfErr result (IsAtomFaultOf line (lines_of bytes.now)) }
 {
-    match read_data::<Atom>(alloc, bytes, line) {
-        Ok(atoms) if atoms.len() <= MAX_ATOMS => Ok(AtomList { atoms }),
-        Ok(_) => Err(AtomFault::Many),
-        Err(DataFault::Bad(k)) => Err(AtomFault::Bad(k)),
-        Err(DataFault::NoMemory) => Err(AtomFault::NoMemory),
+    let atoms = read_data::<Atom>(alloc, bytes, line)?;
+    if atoms.len() > MAX_ATOMS {
+        return Err(AtomFault::Many);
+    }
+    Ok(AtomList { atoms })
+}
+
+impl From<DataFault> for AtomFault {
+    ghost from_gives = { λ fault given. given ≡ atom_fault fault };
+
+    fn from(fault: DataFault) -> AtomFault {
+        match fault {
+            DataFault::Bad(k) => AtomFault::Bad(k),
+            DataFault::NoMemory => AtomFault::NoMemory,
+        }
     }
 }
 

@@ -50,6 +50,9 @@ pub fn expand(alloc: Global, group: &Group, atoms: &AtomList) -> Result<Expansio
     let Ok(mut entries) = Vec::with_capacity(alloc, usize::from(atoms.len())) else {
         return Err(NoMemory);
     };
+    // So each orbit has a point.
+    let members = group.len();
+    prove!(members > 0);
     for k in 0..atoms.len() {
         let orbit = orbit(alloc, group, &atoms.get(k).at)?;
         let entry = entry_of(&entries, orbit);

@@ -1,12 +1,12 @@
 -- Data lines decide what is read: their values are one list, or one of them is the first bad one.
-use Rattle.std.proofs.Common.{◌≡◌, ◌⊎◌, ◌+◌, ℕ, false, List, [], ◌∷◌, map, refl, sym, inl, inr, ⊎_elim}
+use Rattle.std.proofs.Common.{◌≡◌, ◌⊎◌, ◌+◌, ℕ, false, List, [], ◌∷◌, map, get_or, refl, sym, subst, inl, inr, ⊎_elim}
 use Rattle.std.proofs.lemmas.Bool.{cases_Bool}
 use Rattle.triplet_text.specs.Pieces.{is_skipped}
 use Rattle.triplet_text.specs.Lines.{end, skipped, read}
 use Rattle.triplet_text.proofs.LineSteps.{skipped_from, not_skipped}
 use Rattle.triplet_text.proofs.SaidLines as said
 use Rattle.triplet_text.proofs.SaidLines.{IsGoodLine, AreBadLines, SayOneThing}
-use Rattle.data_lines.specs.DataLines.{IsDataLine, IsBadLine, AreWritten, IsFirstSuch}
+use Rattle.data_lines.specs.DataLines.{IsDataLine, IsWrittenLine, IsBadLine, AreWritten, IsFirstSuch}
 
 module _ {A : Type 0} (IsWritten : List ℕ → A → Type 0) where
   abbrev IsSaid : List ℕ → A → Type 0
@@ -61,3 +61,28 @@ module _ {A B : Type 0} (IsWritten : List ℕ → B → Type 0) (view : A → B)
   seen_values end = end
   seen_values (skipped s rest) = skipped s (seen_values rest)
   seen_values (read d rest) = read (record { kept = d.kept; written = d.written }) (seen_values rest)
+
+  -- where each value that a line writes is seen of one of the others
+  module _ (onto : (line : List ℕ) (y : B) → IsWritten line y → (x : A) × (view x ≡ y)) where
+    seen_good : (line : List ℕ) → IsGoodLine (IsDataLine IsSeenAs) line → IsGoodLine (IsDataLine IsWritten) line
+    seen_good line (inl s) = inl s
+    seen_good line (inr d) = inr (view d.0, record { kept = d.1.kept; written = d.1.written })
+
+    seen_first : (IsSuch Such : List ℕ → Type 0) → ((line : List ℕ) → IsSuch line → Such line) → (first : ℕ) (lines : List (List ℕ)) (k : ℕ) → IsFirstSuch IsSeenAs IsSuch first lines k → IsFirstSuch IsWritten Such first lines k
+    seen_first IsSuch Such to first lines k f = record {
+      before = f.before;
+      line = f.line;
+      after = f.after;
+      cut = f.cut;
+      good = λ j d l. seen_good (get_or f.before j d) (f.good j d l);
+      number = f.number;
+      bad = to f.line f.bad;
+    }
+
+    pub seen_bad : (first : ℕ) (lines : List (List ℕ)) (k : ℕ) → IsFirstSuch IsSeenAs (IsBadLine IsSeenAs) first lines k → IsFirstSuch IsWritten (IsBadLine IsWritten) first lines k
+    seen_bad =
+        seen_first (IsBadLine IsSeenAs) (IsBadLine IsWritten)
+        (λ line b. record { kept = b.kept; unwritten = λ y w. let o = onto line y w in b.unwritten o.0 (subst (IsWritten line) (sym o.1) w) })
+
+    pub seen_written : (first : ℕ) (lines : List (List ℕ)) (k : ℕ) → IsFirstSuch IsSeenAs (IsWrittenLine IsSeenAs) first lines k → IsFirstSuch IsWritten (IsWrittenLine IsWritten) first lines k
+    seen_written = seen_first (IsWrittenLine IsSeenAs) (IsWrittenLine IsWritten) (λ line w. record { kept = w.kept; value = view w.value; written = w.written })

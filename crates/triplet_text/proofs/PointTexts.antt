@@ -5,10 +5,10 @@ use lib.IntN.{*ℤ_comm}
 use Rattle.std.specs.Prelude.{Option, Some, None, IsSome, IfNone}
 use Rattle.std.proofs.lemmas.Bool.{false≢true}
 use Rattle.lattice_algebra.proofs.Numbers.{cancel_number}
-use Rattle.lattice_algebra.proofs.Ring.{var, con, ◌⊗◌, ring}
-use Rattle.exact_ops.specs.declared.TheConstants.{UNIT, MAX_COORDINATE}
+use Rattle.exact_ops.specs.declared.TheConstants.{MAX_COORDINATE}
 use Rattle.lattice_algebra.specs.Point.{Point}
-use Rattle.exact_ops.specs.Points.{AreCoordinatesInRange, HasCoordinates}
+use Rattle.exact_ops.specs.Points.{IsPointInRange, AreCoordinatesInRange, HasCoordinates}
+use Rattle.exact_ops.proofs.Points.{point_at, point_in_range, HasCoordinates-point}
 use Rattle.triplet_text.specs.Coordinates.{IsCoordinate}
 use Rattle.triplet_text.specs.Points.{ArePointTexts}
 use Rattle.triplet_text.proofs.CoordinateLaw.{one_coordinate}
@@ -42,20 +42,6 @@ point_of_texts x y z p q h k =
 
 -- ---- whether they are coordinates
 
-some_point : (a b c : ℤ × ℤ) → (p : Point) × HasCoordinates (a ∷ b ∷ c ∷ []) p
-some_point a b c = (
-  record {
-    n = record { x = pos UNIT *ℤ (a.0 *ℤ b.1 *ℤ c.1); y = pos UNIT *ℤ (b.0 *ℤ a.1 *ℤ c.1); z = pos UNIT *ℤ (c.0 *ℤ a.1 *ℤ b.1) };
-    d = pos UNIT *ℤ (a.1 *ℤ b.1 *ℤ c.1);
-  },
-  record {
-    denominator = λ _. pos UNIT *ℤ (a.1 *ℤ b.1 *ℤ c.1);
-    x = ring (a.0 ∷ a.1 ∷ b.1 ∷ c.1 ∷ []) (con (pos UNIT) ⊗ (var 0 ⊗ var 2 ⊗ var 3) ⊗ var 1) (var 0 ⊗ (con (pos UNIT) ⊗ (var 1 ⊗ var 2 ⊗ var 3))) tt;
-    y = ring (b.0 ∷ a.1 ∷ b.1 ∷ c.1 ∷ []) (con (pos UNIT) ⊗ (var 0 ⊗ var 1 ⊗ var 3) ⊗ var 2) (var 0 ⊗ (con (pos UNIT) ⊗ (var 1 ⊗ var 2 ⊗ var 3))) tt;
-    z = ring (c.0 ∷ a.1 ∷ b.1 ∷ c.1 ∷ []) (con (pos UNIT) ⊗ (var 0 ⊗ var 1 ⊗ var 2) ⊗ var 3) (var 0 ⊗ (con (pos UNIT) ⊗ (var 1 ⊗ var 2 ⊗ var 3))) tt;
-  },
-)
-
 abbrev pub PointOrNone : List ℕ → List ℕ → List ℕ → Type 0
 PointOrNone x y z = ((p : Point) × ArePointTexts x y z p) ⊎ ((p : Point) → ArePointTexts x y z p → ⊥)
 
@@ -63,7 +49,7 @@ pub point_or_none : (x y z : List ℕ) → PointOrNone x y z
 point_or_none x y z = by (coordinate_or_none x) (coordinate_or_none y) (coordinate_or_none z)
   where
     by : CoordinateOrNone x → CoordinateOrNone y → CoordinateOrNone z → PointOrNone x y z
-    by (inl a) (inl b) (inl c) = let p = some_point a.0 b.0 c.0 in inl (p.0, record { first = a.0; second = b.0; third = c.0; is_first = a.1; is_second = b.1; is_third = c.1; point = p.1 })
+    by (inl a) (inl b) (inl c) = let three = a.0 ∷ b.0 ∷ c.0 ∷ [] in inl (point_at three, record { first = a.0; second = b.0; third = c.0; is_first = a.1; is_second = b.1; is_third = c.1; point = HasCoordinates-point three })
     by (inr n) b c = inr (λ p h. n h.first.0 h.first.1 h.is_first)
     by (inl a) (inr n) c = inr (λ p h. n h.second.0 h.second.1 h.is_second)
     by (inl a) (inl b) (inr n) = inr (λ p h. n h.third.0 h.third.1 h.is_third)
@@ -84,3 +70,9 @@ in_range x y z a b c p q r = record {
 pub not_none : {A : Type 0} (o : Option A) (P : Type 0) → IsSome o → IfNone o P
 not_none None P h = absurd (false≢true h)
 not_none (Some x) P h = tt
+
+pub point_texts_in_range : (x y z : List ℕ) (p : Point) → ArePointTexts x y z p → IsPointInRange p
+point_texts_in_range x y z p h =
+    let three = h.first ∷ h.second ∷ h.third ∷ [] in
+    let one = one_point h.first h.second h.third (point_at three) p h.is_first.positive h.is_second.positive h.is_third.positive (HasCoordinates-point three) h.point in
+    subst IsPointInRange one (point_in_range three (in_range x y z h.first h.second h.third h.is_first h.is_second h.is_third))
