@@ -2,4 +2,5 @@ mod SamePoints
 mod Places
 pub mod Orbits
 pub mod SiteLines
-mod Placing
+pub mod Placing
+pub mod Standing

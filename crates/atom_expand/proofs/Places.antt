@@ -1,5 +1,5 @@
 -- The first points of orbits, and the entries before a place.
-use Rattle.std.proofs.Common.{◌≡◌, ◌↔◌, ◌⊎◌, ◌<◌, ◌∷◌, ◌++◌, [], ℕ, zero, suc, Bool, IsTrue, List, length, get_or, Option, Some, None, slice_get, inl, inr, ⊎_elim, sym, ap, subst, ◌∙◌, refl}
+use Rattle.std.proofs.Common.{◌≡◌, ◌↔◌, ◌⊎◌, ◌<◌, ◌∷◌, ◌++◌, [], ℕ, zero, suc, Bool, IsTrue, List, length, get_or, Option, Some, None, slice_get, inl, inr, ⊎_elim, sym, ap, subst, ◌∙◌, refl, arith}
 use Rattle.std.proofs.lemmas.Option.{slice_get_read, slice_get_within}
 use Rattle.std.specs.Prelude.{IfNone}
 use Rattle.lattice_algebra.specs.Point.{Point, ◌≈◌}
@@ -53,3 +53,9 @@ at_more (z ∷ xs) x y (suc k) e = ⊎_elim (λ h. inl h) (λ h. inr (ap suc h.0
 -- the first site with an orbit has points under it, so it has a place in the list
 pub linked_within : (items list : List Expanded) (k j : ℕ) → items ≡ list → AreLinked items → slice_get list k ≡ Some (Same j) → j < length list
 linked_within items list k j e l h = let p = l k j (rw (sym e) at h) in subst (λ xs. j < length xs) e (slice_get_within items j _ p.1)
+
+-- a place within the list has an element
+pub some_at : {A : Type 0} (xs : List A) (k : ℕ) → k < length xs → (x : A) × (slice_get xs k ≡ Some x)
+some_at [] k l = absurd (omega arith)
+some_at (x ∷ xs) zero l = (x, refl)
+some_at (x ∷ xs) (suc k) l = some_at xs k (omega (arith, l))

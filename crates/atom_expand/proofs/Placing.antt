@@ -1,5 +1,5 @@
 -- Sites that are expanded one by one.
-use Rattle.std.proofs.Common.{◌≡◌, ◌↔◌, ◌⊎◌, ◌<◌, ◌≤◌, ◌+◌, ◌*◌, ◌∷◌, ◌++◌, [], ℕ, List, length, get_or, slice_get, Some, All, inl, inr, ⊎_elim, sym, ap, subst, ◌∙◌, refl, arith, length-append}
+use Rattle.std.proofs.Common.{◌≡◌, ◌↔◌, ◌⊎◌, ◌<◌, ◌≤◌, ◌+◌, ◌*◌, ◌∷◌, ◌++◌, [], ℕ, zero, suc, List, length, get_or, slice_get, Some, All, inl, inr, ⊎_elim, sym, ap, subst, ◌∙◌, refl, arith, length-append}
 use Rattle.std.proofs.lemmas.Bool.{cases_lt}
 use Rattle.std.proofs.lemmas.Option.{slice_get-get_or, slice_get_within, get_or_from_slice_get}
 use Rattle.std.proofs.lemmas.List.Elements.{All-nil, All-cons, All-append}
@@ -11,14 +11,19 @@ use Rattle.group_closure.proofs.Places.{some_member}
 use Rattle.space_groups.specs.Space.{IsInOrbit}
 use Rattle.space_groups.proofs.Laws.{some_site, order_times_multiplicity}
 use Rattle.site_symmetry.proofs.SpaceOfGroup.{space_of}
-use Rattle.orbit_map.specs.OrderedOrbit.{IsOrderedOrbit}
+use Rattle.exact_ops.proofs.Narrow.{some_parts}
+use Rattle.lattice_algebra.specs.Matrix.{times}
+use Rattle.space_groups.proofs.Points.{IsPoint-scaled}
+use Rattle.orbit_map.specs.OrderedOrbit.{IsScaled, IsOrderedOrbit}
+use Rattle.orbit_map.proofs.OrbitLists.{some_ordered_orbit}
 use Rattle.atom_expand.specs.declared.expansion.Expanded.{Expanded}
 use Rattle.atom_expand.specs.declared.expansion.Expanded.TheVariants.{First, Same}
 use Rattle.atom_expand.specs.Sites.{AtomSite}
-use Rattle.atom_expand.specs.Expansions.{HaveOneOrbit, IsFirstWith, IsExpandedTo, IsExpansion}
+use Rattle.atom_expand.specs.Expansions.{HaveOneOrbit, IsFirstWith, IsExpandedTo, IsExpansion, AreAtScaledPoints}
 use Rattle.atom_expand.specs.Steps.{BeginsInCell, BeginsWith, IfFirst, IsFirstAnd, NoneIs, IsAt, IsEntryFor, AreLinked}
 use Rattle.atom_expand.proofs.Orbits.{first_among, one_from_first, first_from_one}
-use Rattle.atom_expand.proofs.Places.{kept_at, at_end, at_more, same_some}
+use Rattle.atom_expand.proofs.Places.{kept_at, at_more, same_some, some_at}
+use Rattle.atom_expand.proofs.SamePoints.{same_or_not}
 
 -- ---- an orbit has a first point, in the cell
 
@@ -71,17 +76,9 @@ module _ (members : List Operator) (sites : List AtomSite) where
     -- the site of an entry
     site_at : (k : ℕ) → k < n → (site : AtomSite) × (slice_get sites k ≡ Some site)
     site_at k l = some_at sites k (omega arith)
-      where
-        some_at : (xs : List AtomSite) (k : ℕ) → k < length xs → (site : AtomSite) × (slice_get xs k ≡ Some site)
-        some_at [] k l = absurd (omega arith)
-        some_at (x ∷ xs) k l = (get_or (x ∷ xs) k x, slice_get-get_or (x ∷ xs) k x l)
 
     entry_at : (k : ℕ) → k < n → (entry : Expanded) × (slice_get entries k ≡ Some entry)
     entry_at k l = some_at entries k (omega (arith, placed.count))
-      where
-        some_at : (xs : List Expanded) (k : ℕ) → k < length xs → (entry : Expanded) × (slice_get xs k ≡ Some entry)
-        some_at [] k l = absurd (omega arith)
-        some_at (x ∷ xs) k l = (get_or (x ∷ xs) k x, slice_get-get_or (x ∷ xs) k x l)
 
     -- for an earlier site, that which has the points of its orbit under it
     record Owner (x : Point) : Type 0 where
@@ -201,3 +198,60 @@ module _ (members : List Operator) (sites : List AtomSite) where
 
   pub all_placed : (n : ℕ) (entries : List Expanded) → length sites ≤ n → n ≤ length sites → ArePlaced n entries → IsExpansion members sites entries
   all_placed n entries l m p = record { as_many = omega (arith, p.count, l, m); each = p.each }
+
+-- ---- there is an expansion
+
+-- whether some entry begins with the point
+begin_or_none : (p : Point) (entries : List Expanded) → ((j : ℕ) × IsAt (IsFirstAnd (BeginsWith p)) entries j) ⊎ NoneIs (IsFirstAnd (BeginsWith p)) entries
+begin_or_none p [] = inr (λ i entry e b. absurd cc)
+begin_or_none p (entry ∷ entries) = by (this entry) (begin_or_none p entries)
+  where
+    this : (entry : Expanded) → IsFirstAnd (BeginsWith p) entry ⊎ (IsFirstAnd (BeginsWith p) entry → ⊥)
+    this (First []) = inr (λ b. let e = b.here in absurd cc)
+    this (First (q ∷ points)) = ⊎_elim (λ s. inl (record { least = q; here = refl; same = s })) (λ n. inr (λ b. n (subst (λ (v : Point). v ≈ p) (same_some b.least q (sym b.here)) b.same))) (same_or_not q p)
+    this (Same j) = inr (λ b. b)
+
+    none : NoneIs (IsFirstAnd (BeginsWith p)) entries → (IsFirstAnd (BeginsWith p) entry → ⊥) → NoneIs (IsFirstAnd (BeginsWith p)) (entry ∷ entries)
+    none all n zero other e b = n (subst (IsFirstAnd (BeginsWith p)) (sym (same_some entry other e)) b)
+    none all n (suc i) other e b = all i other e b
+
+    by : IsFirstAnd (BeginsWith p) entry ⊎ (IsFirstAnd (BeginsWith p) entry → ⊥) → ((j : ℕ) × IsAt (IsFirstAnd (BeginsWith p)) entries j) ⊎ NoneIs (IsFirstAnd (BeginsWith p)) entries
+        → ((j : ℕ) × IsAt (IsFirstAnd (BeginsWith p)) (entry ∷ entries) j) ⊎ NoneIs (IsFirstAnd (BeginsWith p)) (entry ∷ entries)
+    by (inl b) rest = inl (0, record { entry = entry; here = refl; such = b })
+    by (inr n) (inl a) = inl (suc a.0, record { entry = a.1.entry; here = a.1.here; such = a.1.such })
+    by (inr n) (inr all) = inr (none all n)
+
+module _ (members : List Operator) (group : IsGroup members) (sites : List AtomSite) (scaled : AreAtScaledPoints sites) where
+  scaled_at : (k : ℕ) (site : AtomSite) → slice_get sites k ≡ Some site → IsScaled site.at
+  scaled_at k site s = subst (λ (v : AtomSite). IsScaled v.at) (get_or_from_slice_get sites k site site s) (scaled k site (slice_get_within sites k site s))
+
+  point_of_scaled : (x : Point) → IsScaled x → IsPoint x
+  point_of_scaled x s = subst IsPoint (sym s.1) (IsPoint-scaled UNIT some_parts s.0)
+
+  entry_for : (entries : List Expanded) (orbit : List Point) (least : Point) → slice_get orbit 0 ≡ Some least → (entry : Expanded) × IsEntryFor entries orbit entry
+  entry_for entries orbit least e = by (begin_or_none least entries)
+    where
+      is_least : (p : Point) → slice_get orbit 0 ≡ Some p → least ≡ p
+      is_least p f = same_some least p (sym e ∙ f)
+
+      by : ((j : ℕ) × IsAt (IsFirstAnd (BeginsWith least)) entries j) ⊎ NoneIs (IsFirstAnd (BeginsWith least)) entries → (entry : Expanded) × IsEntryFor entries orbit entry
+      by (inl a) = (Same a.0, λ p f. subst (λ v. IsAt (IsFirstAnd (BeginsWith v)) entries a.0) (is_least p f) a.1)
+      by (inr n) = (First orbit, (refl, λ p f. subst (λ v. NoneIs (IsFirstAnd (BeginsWith v)) entries) (is_least p f) n))
+
+  some_placed : (n : ℕ) → n ≤ length sites → (entries : List Expanded) × ArePlaced members sites n entries
+  some_placed zero l = ([], none_placed members sites)
+  some_placed (suc n) l = more (some_placed n (omega arith)) (some_at sites n (omega arith))
+    where
+      more : ((entries : List Expanded) × ArePlaced members sites n entries) → ((site : AtomSite) × (slice_get sites n ≡ Some site)) → (entries : List Expanded) × ArePlaced members sites (suc n) entries
+      more before here =
+          let is_scaled = scaled_at n here.0 here.1 in
+          let point = point_of_scaled here.0.at is_scaled in
+          let o = some_ordered_orbit members here.0.at group is_scaled in
+          let b = begins_in_cell members group here.0.at point o.0 o.1 in
+          let e = entry_for before.0 o.0 b.least b.here in (
+            before.0 ++ e.0 ∷ [],
+            subst (λ m. ArePlaced members sites m (before.0 ++ e.0 ∷ [])) (omega arith) (placed_more members sites group n before.0 before.1 (omega arith) here.0 here.1 point o.0 o.1 e.0 e.1),
+          )
+
+  pub some_expansion : (entries : List Expanded) × IsExpansion members sites entries
+  some_expansion = let p = some_placed (length sites) (omega arith) in (p.0, all_placed members sites (length sites) p.0 (omega arith) (omega arith) p.1)

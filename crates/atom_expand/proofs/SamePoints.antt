@@ -1,6 +1,7 @@
 -- Points over multiples of UNIT are compared by smaller cross products.
-use Rattle.std.proofs.Common.{◌≡◌, ◌↔◌, ◌≤◌, ◌*◌, ◌^◌, ◌∷◌, [], List, ℕ, ℤ, pos, ◌*ℤ◌, ◌<ℤ◌, ◌≤ℤ◌, unsigned_abs, Bool, IsTrue, eqb, of_z, to_z, to_z-of_z, ap, sym, ◌∙◌, arith}
-use Rattle.std.proofs.lemmas.Bool.{eqb-true, eq-eqb}
+use Rattle.std.proofs.Common.{◌≡◌, ◌⊎◌, inl, inr, ⊎_elim, int_eq, ◌↔◌, ◌≤◌, ◌*◌, ◌^◌, ◌∷◌, [], List, ℕ, ℤ, pos, ◌*ℤ◌, ◌<ℤ◌, ◌≤ℤ◌, unsigned_abs, Bool, IsTrue, eqb, of_z, to_z, to_z-of_z, ap, sym, ◌∙◌, arith}
+use Rattle.std.proofs.lemmas.Bool.{eqb-true, eq-eqb, cases_Bool, false≢true}
+use Rattle.std.specs.Cmp.{signed_Decides}
 use Rattle.std.proofs.lemmas.Int.{ints}
 use mir.Syntax.{w128}
 use Rattle.lattice_algebra.specs.Matrix.{Column, times}
@@ -117,3 +118,18 @@ asked b x d u e within h =
     let l = left_is x d u e within in
     let r = right_is x d u e within in
     ((λ t. sym l ∙ h.0 t ∙ r), (λ s. h.1 (l ∙ s ∙ sym r)))
+
+-- ---- whether two points are one
+
+number_or_not : (a b : ℤ) → (a ≡ b) ⊎ (a ≡ b → ⊥)
+number_or_not a b = ⊎_elim (λ t. inl ((signed_Decides a b).0 t)) (λ f. inr (λ e. false≢true (sym f ∙ (signed_Decides a b).1 e))) (cases_Bool (int_eq a b))
+
+pub same_or_not : (p q : Point) → (p ≈ q) ⊎ (p ≈ q → ⊥)
+unfolding times
+same_or_not p q = by (number_or_not _ _) (number_or_not _ _) (number_or_not _ _)
+  where
+    by : (q.d *ℤ p.n.x ≡ p.d *ℤ q.n.x) ⊎ (q.d *ℤ p.n.x ≡ p.d *ℤ q.n.x → ⊥) → (q.d *ℤ p.n.y ≡ p.d *ℤ q.n.y) ⊎ (q.d *ℤ p.n.y ≡ p.d *ℤ q.n.y → ⊥) → (q.d *ℤ p.n.z ≡ p.d *ℤ q.n.z) ⊎ (q.d *ℤ p.n.z ≡ p.d *ℤ q.n.z → ⊥) → (p ≈ q) ⊎ (p ≈ q → ⊥)
+    by (inl x) (inl y) (inl z) = inl (λ i. record { x = x i; y = y i; z = z i })
+    by (inr n) y z = inr (λ e. n (ap (λ (c : Column). c.x) e))
+    by (inl x) (inr n) z = inr (λ e. n (ap (λ (c : Column). c.y) e))
+    by (inl x) (inl y) (inr n) = inr (λ e. n (ap (λ (c : Column). c.z) e))

@@ -1,11 +1,11 @@
 -- The expansion of labelled sites to the points of their orbits in the cell. International Tables A, "crystallographic orbit".
 use Rattle.std.specs.Prelude.{◌≡◌, ◌<◌, ◌↔◌, ℕ, List, Option, Some, None, length, slice_get}
-use Rattle.std.specs.List.{Contains}
+use Rattle.std.specs.List.{All, Contains}
 use Rattle.lattice_algebra.specs.Operator.{Operator}
 use Rattle.lattice_algebra.specs.Point.{Point, IsPoint, ◌≈◌}
 use Rattle.exact_ops.specs.declared.TheConstants.{UNIT}
 use Rattle.space_groups.specs.Space.{IsInOrbit}
-use Rattle.orbit_map.specs.OrderedOrbit.{IsOrderedOrbit}
+use Rattle.orbit_map.specs.OrderedOrbit.{IsScaled, IsOrderedOrbit}
 use Rattle.atom_expand.specs.declared.expansion.Expanded.{Expanded}
 use Rattle.atom_expand.specs.declared.expansion.Expanded.TheVariants.{First, Same}
 use Rattle.atom_expand.specs.Sites.{AtomSite}
@@ -53,6 +53,26 @@ same_at other = None
 pub record StandsUnder (entries : List Expanded) (p : Point) (k : ℕ) : Type 0 where
   pub points : List Point
   pub under : slice_get entries k ≡ Some (First points)
-  pub one : Point
-  pub among : Contains points one
-  pub same : one ≈ p
+  pub written : Point
+  pub among : Contains points written
+  pub same : written ≈ p
+
+-- it stands under the site at place k alone
+pub record StandsOnce (entries : List Expanded) (p : Point) (k : ℕ) : Type 0 where
+  pub here : StandsUnder entries p k
+  pub only : (i : ℕ) → StandsUnder entries p i → i ≡ k
+
+-- the first site whose orbit has the point p stands at place j
+pub record IsFirstThrough (members : List Operator) (sites : List AtomSite) (p : Point) (j : ℕ) : Type 0 where
+  pub site : AtomSite
+  pub here : slice_get sites j ≡ Some site
+  pub through : IsInOrbit UNIT members site.at p
+  pub first : (i : ℕ) (other : AtomSite) → i < j → slice_get sites i ≡ Some other → ¬ IsInOrbit UNIT members other.at p
+
+-- each site stands at a point, or at one whose denominator is a multiple of UNIT
+abbrev pub AreAtPoints : List AtomSite → Type 0
+AreAtPoints sites = All (λ (site : AtomSite). IsPoint site.at) sites
+
+abbrev pub AreAtScaledPoints : List AtomSite → Type 0
+AreAtScaledPoints sites = All (λ (site : AtomSite). IsScaled site.at) sites
+

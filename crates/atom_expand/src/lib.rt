@@ -11,12 +11,17 @@ mod atom;
 mod atoms;
 mod expansion;
 mod label;
+mod laws;
 mod same;
 
 pub use atom::{Atom, read_atom};
 pub use atoms::{AtomFault, AtomList, read_atoms};
 pub use expansion::{Expanded, Expansion, expand};
 pub use label::Label;
+pub use laws::{
+    each_point_stands_once, one_expansion, orbits_are_those_of_the_sites, site_is_unique,
+    sites_are_written_or_bad,
+};
 
 /// The most bytes that a label has.
 pub const LABEL_LENGTH: usize = 16;
