@@ -3,3 +3,4 @@ pub mod Padding
 pub mod Sites
 pub mod Expansions
 pub mod Steps
+pub mod Printing

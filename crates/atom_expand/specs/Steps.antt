@@ -46,3 +46,8 @@ IsEntryFor entries points (Same j) = (p : Point) → slice_get points 0 ≡ Some
 -- where a site has the orbit of an earlier one, that one has points under it
 abbrev pub AreLinked : List Expanded → Type 0
 AreLinked entries = (k j : ℕ) → slice_get entries k ≡ Some (Same j) → (points : List Point) × (slice_get entries j ≡ Some (First points))
+
+-- the place of another site is below this
+abbrev pub IsSameWithin : ℕ → Expanded → Type 0
+IsSameWithin most (First points) = Unit {0}
+IsSameWithin most (Same j) = j < most

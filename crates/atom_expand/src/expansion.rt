@@ -4,7 +4,7 @@ ghost use Rattle.space_groups.specs.Space.{IsInCell};
 ghost use Rattle.exact_ops.specs.Numbers.{point_in};
 ghost use Rattle.atom_expand.specs.declared.TheConstants.{MAX_ATOMS};
 ghost use Rattle.atom_expand.specs.Expansions.{IsExpansion, HasOrbit, OfOrbit, same_at};
-ghost use Rattle.atom_expand.specs.Steps.{BeginsInCell, BeginsWith, IfFirst, IsFirstAnd, NoneIs, IsAt, IsEntryFor};
+ghost use Rattle.atom_expand.specs.Steps.{BeginsInCell, BeginsWith, IfFirst, IsFirstAnd, NoneIs, IsAt, IsEntryFor, IsSameWithin};
 
 use crate::atoms::AtomList;
 use crate::same::is_same_point;
@@ -109,6 +109,15 @@ impl Expansion {
         ensures within { length self.now ≤ MAX_ATOMS }
     {
         self.entries.len() as u16
+    }
+
+    /// What the site at place k is expanded to. Where it has the orbit of an earlier site, that is in the list.
+    pub(crate) fn entry(&self, k: u16) -> &Expanded
+        requires { k < length self.now }
+        ensures value { slice_get self.now k ≡ Some result.now }
+        ensures within { IsSameWithin MAX_ATOMS result.now }
+    {
+        &self.entries[usize::from(k)]
     }
 
     /// The place of the first site with the orbit of the site at place k, where that is an earlier one.

@@ -12,6 +12,7 @@ mod atoms;
 mod expansion;
 mod label;
 mod laws;
+mod printing;
 mod same;
 
 pub use atom::{Atom, read_atom};
@@ -22,6 +23,7 @@ pub use laws::{
     each_point_stands_once, one_expansion, orbits_are_those_of_the_sites, site_is_unique,
     sites_are_written_or_bad,
 };
+pub use printing::print_atoms;
 
 /// The most bytes that a label has.
 pub const LABEL_LENGTH: usize = 16;

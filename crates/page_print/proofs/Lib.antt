@@ -2,3 +2,4 @@ pub mod LineTexts
 pub mod Counting
 pub mod Gathering
 pub mod Places
+pub mod PartTexts

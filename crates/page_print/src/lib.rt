@@ -6,8 +6,10 @@
 //! it took a prefix of them. The count of what stopped the call rose, and no other did (`Prints`, `GathersText`).
 #![tactic(auto)]
 
+mod heading;
 mod listed;
 mod page;
 
+pub use heading::put_heading;
 pub use listed::{Listed, print_listed, put_listed};
 pub use page::{PAGE_ROOM, Page, make_room, put_page};

@@ -1,0 +1,156 @@
+ghost use Rattle.std.proofs.Common.{rules};
+ghost use Rattle.std.specs.Prelude.{◌≡◌, ◌+◌, ◌≤◌, ◌<◌, drop, codes, length};
+ghost use Rattle.exact_ops.specs.Numbers.{point_in};
+ghost use Rattle.page_print.specs.declared.page.TheConstants.{PAGE_ROOM};
+ghost use Rattle.page_print.specs.Lines.{AreLines, AddsSuch};
+ghost use Rattle.page_print.specs.Printing.{Prints, GathersText};
+ghost use Rattle.atom_expand.specs.declared.TheConstants.{MAX_ATOMS};
+ghost use Rattle.atom_expand.specs.declared.printing.TheConstants.{SITE_LINE, POINT_LINE};
+ghost use Rattle.atom_expand.specs.declared.expansion.Expanded.TheVariants as entry;
+ghost use Rattle.atom_expand.specs.Steps.{IsSameWithin};
+ghost use Rattle.atom_expand.specs.Printing.{site_line, IsPointLine, IsEntryText, IsAtomsText};
+
+use crate::LABEL_LENGTH;
+use crate::atoms::AtomList;
+use crate::expansion::{Expanded, Expansion};
+use crate::label::Label;
+use exact_ops::Point;
+use itoa::Buffer;
+use orbit_map::parts::Orbit;
+use page_print::{Listed, Page, put_heading, put_listed, put_page};
+use sg_io::{Sink, SinkStop};
+use triplet_text::{TEXT_ROOM, Text, print_frac};
+
+/// The most bytes that the line of a site has: a word, two numbers, a label, three blanks and the line feed.
+const SITE_LINE: usize = 4 + 5 + LABEL_LENGTH + 5 + 4;
+
+/// The most bytes that the line of a point has: a word, a number, three fractions, four blanks and the line feed.
+const POINT_LINE: usize = 2 + 5 + 3 * TEXT_ROOM + 5;
+
+/// Writes the lines of the command `atoms`: for each site its number, its label and how many points its orbit has in the cell, and
+/// a line for each of these; or, where an earlier site has the same orbit, the number of the first that has it. It takes no memory.
+/// After an Err a prefix of the lines is written.
+pub fn print_atoms<K: Sink>(
+    atoms: &AtomList,
+    expansion: &Expansion,
+    sink: &mut K,
+) -> Result<(), SinkStop>
+    requires { length expansion.now ≡ length atoms.now }
+    ensures { Prints K.seen (IsAtomsText atoms.now expansion.now) sink.old sink.new result }
+{
+    let mut page = Page::new();
+    for k in 0..atoms.len() {
+        let label = atoms.get(k).label;
+        put_site(k + 1, &label, expansion.entry(k), &mut page, sink)?;
+    }
+    put_page(&page, sink)
+}
+
+/// Adds the lines of a site to the page.
+fn put_site<K: Sink>(
+    number: u16,
+    label: &Label,
+    entry: &Expanded,
+    page: &mut Page,
+    sink: &mut K,
+) -> Result<(), SinkStop>
+    requires { IsSameWithin MAX_ATOMS entry.now }
+    ensures { GathersText K.seen (IsEntryText number label.now entry.now)
+        sink.old sink.new page.old page.new result }
+{
+    match entry {
+        Expanded::First(orbit) => put_orbit(number, label, orbit, page, sink),
+        Expanded::Same(j) => put_same(number, label, *j, page, sink),
+    }
+}
+
+fn put_orbit<K: Sink>(
+    number: u16,
+    label: &Label,
+    orbit: &Orbit,
+    page: &mut Page,
+    sink: &mut K,
+) -> Result<(), SinkStop>
+    ensures { GathersText K.seen (IsEntryText number label.now (entry.First orbit.now))
+        sink.old sink.new page.old page.new result }
+{
+    let heading = heading(b"site ", number, label, orbit.len());
+    put_heading(heading.bytes(), POINT_LINE, page, sink)?;
+    put_listed(&PointLines { number, orbit }, page, sink)
+}
+
+fn put_same<K: Sink>(
+    number: u16,
+    label: &Label,
+    first: u16,
+    page: &mut Page,
+    sink: &mut K,
+) -> Result<(), SinkStop>
+    requires { first < MAX_ATOMS }
+    ensures { GathersText K.seen (IsEntryText number label.now (entry.Same first))
+        sink.old sink.new page.old page.new result }
+{
+    let heading = heading(b"same ", number, label, first + 1);
+    put_heading(heading.bytes(), 0, page, sink)
+}
+
+/// The line of a site.
+fn heading(word: &[u8], number: u16, label: &Label, other: u16) -> Text
+    requires { length word.now ≤ 5 }
+    ensures text { result ≡ site_line word.now number label.now other }
+    ensures short { length result ≤ SITE_LINE }
+{
+    let mut text = Text::new();
+    text.push(word);
+    text.push(Buffer::new().format(number).as_bytes());
+    text.push(b" ");
+    text.push(label.bytes());
+    text.push(b" ");
+    text.push(Buffer::new().format(other).as_bytes());
+    text.push(b"\n");
+    text
+}
+
+#[derive(Drop)]
+struct PointLines<'a> {
+    number: u16,
+    orbit: &'a Orbit,
+}
+
+impl Listed for PointLines<'_> {
+    ghost texts = { λ lines at. AreLines (IsPointLine lines.number) (drop at lines.orbit.now) };
+
+    ghost count = { λ lines. length lines.orbit.now };
+
+    ghost longest = { POINT_LINE };
+
+    ghost fits = { Prim.search rules };
+
+    fn len(&self) -> u16 {
+        self.orbit.len()
+    }
+
+    fn longest_line(&self) -> usize {
+        POINT_LINE
+    }
+
+    fn push_line(&self, at: u16, page: &mut Page) {
+        push_point(self.number, &self.orbit.get(at), page);
+    }
+}
+
+fn push_point(number: u16, point: &Point, page: &mut Page)
+    requires { length page.old + POINT_LINE ≤ PAGE_ROOM }
+    ensures { AddsSuch (IsPointLine number (point_in point.now)) page.old page.new }
+{
+    let [x, y, z] = point.n;
+    page.push(b"at ");
+    page.push(Buffer::new().format(number).as_bytes());
+    page.push(b" ");
+    page.push(print_frac(x, point.d).bytes());
+    page.push(b" ");
+    page.push(print_frac(y, point.d).bytes());
+    page.push(b" ");
+    page.push(print_frac(z, point.d).bytes());
+    page.push(b"\n");
+}

@@ -1,0 +1,14 @@
+-- Texts of several parts.
+use Rattle.std.specs.Prelude.{◌≡◌, ℕ, List, ◌++◌}
+
+-- this text alone
+abbrev pub Is : List ℕ → List ℕ → Type 0
+Is this text = text ≡ this
+
+-- such a text, and then such a text
+pub record Then (First Later : List ℕ → Type 0) (text : List ℕ) : Type 0 where
+  pub first : List ℕ
+  pub is_first : First first
+  pub later : List ℕ
+  pub is_later : Later later
+  pub whole : text ≡ first ++ later
