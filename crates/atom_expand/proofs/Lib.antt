@@ -4,3 +4,4 @@ pub mod Orbits
 pub mod SiteLines
 pub mod Placing
 pub mod Standing
+pub mod SiteTexts

@@ -122,7 +122,7 @@ first_or_behind members x list p a o e (suc j, l, is) =
     inr (subst (λ (v : Point). IsBelow (coordinates p.n) (coordinates v.n)) is (subst (λ (v : Point). IsBelow (coordinates v.n) (coordinates (get_or list (suc j) a).n)) (get_or_from_slice_get list 0 p a e) under))
 
 module _ (members : List Operator) (group : IsGroup members) (x y : Point) (px : IsPoint x) (py : IsPoint y) (a b : List Point) (oa : IsOrderedOrbit members x a) (ob : IsOrderedOrbit members y b) (p q : Point) (first_a : slice_get a 0 ≡ Some p)
-  (first_b : slice_get b 0 ≡ Some q) where
+    (first_b : slice_get b 0 ≡ Some q) where
   in_a : IsPoint p × IsInOrbit UNIT members x p
   in_a = oa.orbit.in_orbit p (first_among a p first_a)
 

@@ -75,4 +75,3 @@ AreAtPoints sites = All (λ (site : AtomSite). IsPoint site.at) sites
 
 abbrev pub AreAtScaledPoints : List AtomSite → Type 0
 AreAtScaledPoints sites = All (λ (site : AtomSite). IsScaled site.at) sites
-

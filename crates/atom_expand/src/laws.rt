@@ -8,6 +8,7 @@ ghost use Rattle.space_groups.specs.Space.{IsInOrbit};
 ghost use Rattle.data_lines.specs.DataLines.{IsFirstSuch, IsBadLine};
 ghost use Rattle.atom_expand.specs.declared.expansion.Expanded.{Expanded};
 ghost use Rattle.atom_expand.specs.Sites.{AtomSite, IsAtomLine, AreAtomLines};
+ghost use Rattle.atom_expand.specs.Printing.{IsAtomsText};
 ghost use Rattle.atom_expand.specs.Expansions.{IsExpansion, HasOrbit, StandsOnce, IsFirstThrough, AreAtPoints, AreAtScaledPoints};
 
 /// A line writes one site at most.
@@ -51,4 +52,12 @@ pub fn each_point_stands_once()
         → (k : ℕ) (site : AtomSite) (p : Point) → slice_get sites k ≡ Some site
         → IsPoint p → IsInOrbit UNIT members site.at p
         → (j : ℕ) × IsFirstThrough members sites p j × StandsOnce entries p j }
+{}
+
+/// An expansion has a text, and one only.
+pub fn one_atoms_text()
+    ensures some { (sites : List AtomSite) (entries : List Expanded)
+        → (text : List ℕ) × IsAtomsText sites entries text }
+    ensures one { (sites : List AtomSite) (entries : List Expanded) (s t : List ℕ)
+        → IsAtomsText sites entries s → IsAtomsText sites entries t → s ≡ t }
 {}

@@ -20,8 +20,8 @@ pub use atoms::{AtomFault, AtomList, read_atoms};
 pub use expansion::{Expanded, Expansion, expand};
 pub use label::Label;
 pub use laws::{
-    each_point_stands_once, one_expansion, orbits_are_those_of_the_sites, site_is_unique,
-    sites_are_written_or_bad,
+    each_point_stands_once, one_atoms_text, one_expansion, orbits_are_those_of_the_sites,
+    site_is_unique, sites_are_written_or_bad,
 };
 pub use printing::print_atoms;
 
