@@ -1,5 +1,5 @@
 -- Sites that are expanded one by one.
-use Rattle.std.proofs.Common.{◌≡◌, ◌↔◌, ◌⊎◌, ◌<◌, ◌≤◌, ◌+◌, ◌*◌, ◌∷◌, ◌++◌, [], ℕ, zero, suc, List, length, get_or, slice_get, Some, All, inl, inr, ⊎_elim, sym, ap, subst, ◌∙◌, refl, arith, length-append}
+use Rattle.std.proofs.Common.{◌≡◌, ◌⊎◌, ◌<◌, ◌≤◌, ◌+◌, ◌∷◌, ◌++◌, [], ℕ, zero, suc, List, length, get_or, slice_get, Some, All, inl, inr, ⊎_elim, sym, ap, subst, ◌∙◌, refl, arith, length-append}
 use Rattle.std.proofs.lemmas.Bool.{cases_lt}
 use Rattle.std.proofs.lemmas.Option.{slice_get-get_or, slice_get_within, get_or_from_slice_get}
 use Rattle.std.proofs.lemmas.List.Elements.{All-nil, All-cons, All-append}
@@ -8,11 +8,9 @@ use Rattle.lattice_algebra.specs.Point.{Point, IsPoint, ◌≈◌}
 use Rattle.exact_ops.specs.declared.TheConstants.{UNIT}
 use Rattle.group_closure.specs.GroupList.{IsGroup}
 use Rattle.group_closure.proofs.Places.{some_member}
-use Rattle.space_groups.specs.Space.{IsInOrbit}
 use Rattle.space_groups.proofs.Laws.{some_site, order_times_multiplicity}
 use Rattle.site_symmetry.proofs.SpaceOfGroup.{space_of}
 use Rattle.exact_ops.proofs.Narrow.{some_parts}
-use Rattle.lattice_algebra.specs.Matrix.{times}
 use Rattle.space_groups.proofs.Points.{IsPoint-scaled}
 use Rattle.orbit_map.specs.OrderedOrbit.{IsScaled, IsOrderedOrbit}
 use Rattle.orbit_map.proofs.OrbitLists.{some_ordered_orbit}

@@ -28,8 +28,8 @@ pub record Numbered : Type 0 where
   pub site : AtomSite
   pub entry : Expanded
 
-abbrev pub IsSiteText : Numbered → List ℕ → Type 0
-IsSiteText n = IsEntryText n.number n.site.label n.entry
+abbrev pub IsAtomText : Numbered → List ℕ → Type 0
+IsAtomText n = IsEntryText n.number n.site.label n.entry
 
 -- the sites with their entries, numbered in their order
 abbrev pub numbered : ℕ → List AtomSite → List Expanded → List Numbered
@@ -39,4 +39,4 @@ numbered number (site ∷ sites) (entry ∷ entries) = record { number = number;
 
 -- the lines of each site, in their order
 abbrev pub IsAtomsText : List AtomSite → List Expanded → List ℕ → Type 0
-IsAtomsText sites entries = AreLines IsSiteText (numbered 1 sites entries)
+IsAtomsText sites entries = AreLines IsAtomText (numbered 1 sites entries)

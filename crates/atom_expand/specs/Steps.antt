@@ -1,6 +1,5 @@
 -- What the steps of an expansion find and keep.
 use Rattle.std.specs.Prelude.{◌≡◌, ◌<◌, ℕ, List, Some, slice_get}
-use Rattle.std.specs.List.{All}
 use Rattle.lattice_algebra.specs.Point.{Point, ◌≈◌}
 use Rattle.space_groups.specs.Space.{IsInCell}
 use Rattle.atom_expand.specs.declared.expansion.Expanded.{Expanded}

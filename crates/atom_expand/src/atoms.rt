@@ -1,6 +1,6 @@
-ghost use Rattle.std.specs.Prelude.{◌≡◌, ◌+◌, ◌≤◌, ◌<◌, Some, IfOk, IfErr, length, slice_get};
+ghost use Rattle.std.specs.Prelude.{◌≡◌, ◌+◌, ◌≤◌, ◌<◌, ◌^◌, Some, IfOk, IfErr, length, slice_get};
 ghost use Rattle.triplet_text.specs.Lines.{lines_of};
-ghost use Rattle.atom_expand.specs.declared.TheConstants.{MAX_ATOMS, MAX_BYTES};
+ghost use Rattle.atom_expand.specs.declared.TheConstants.{MAX_ATOMS};
 ghost use Rattle.atom_expand.specs.Sites.{site_in, AreAtomLines, IsAtomFaultOf, atom_fault};
 
 use crate::MAX_ATOMS;
@@ -41,8 +41,7 @@ impl Model for AtomList {
 /// The sites of all lines that are not skipped, in order; or the first bad line, counted from `line` on; or that there are too
 /// many, which is tested after all lines are seen to be good.
 pub fn read_atoms(alloc: Global, bytes: &[u8], line: u32) -> Result<AtomList, AtomFault>
-    requires bytes { length bytes.now ≤ MAX_BYTES }
-    requires line { line ≤ MAX_BYTES + 2 }
+    requires { length bytes.now + line + 1 < 2 ^ 32 }
     ensures ok { IfOk result (AreAtomLines (lines_of bytes.now)) }
     ensures within { IfOk result (λ atoms. length atoms ≤ MAX_ATOMS) }
     ensures fault { IfErr result (IsAtomFaultOf line (lines_of bytes.now)) }

@@ -30,6 +30,3 @@ pub const LABEL_LENGTH: usize = 16;
 
 /// The most sites that an input has.
 pub const MAX_ATOMS: usize = 4096;
-
-/// The most bytes that are read.
-pub const MAX_BYTES: usize = 1_048_576;

@@ -1,5 +1,4 @@
 use Rattle.std.proofs.lemmas.List.Elements.{All-from_recursion}
-use Rattle.lattice_algebra.specs.Point.{Point}
 use Rattle.orbit_map.specs.OrderedOrbit.{IsScaled}
 use Rattle.data_lines.proofs.DataLaws.{written_or_bad, same_values}
 use Rattle.atom_expand.specs.Sites.{AtomSite, IsAtomLine}

@@ -1,8 +1,8 @@
-use Rattle.std.proofs.Common.{◌≡◌, ◌↔◌, ◌*ℤ◌, IsTrue, sym, ◌∙◌}
+use Rattle.std.proofs.Common.{sym, ◌∙◌}
 use Rattle.std.proofs.lemmas.Bool.{false≢true}
 use Rattle.lattice_algebra.specs.Point.{Point}
 use Rattle.exact_ops.specs.Numbers.{point_in}
-use Rattle.atom_expand.proofs.SamePoints.{AreSmall, small_in_cell, asked, ratios_of, same_of}
+use Rattle.atom_expand.proofs.SamePoints.{small_in_cell, asked, ratios_of, same_of}
 use Rattle.atom_expand.proofs.same.is_same_point.Goals as goal
 
 pub returns-then-not-is_same_ratio : goal.returns-then-not-is_same_ratio
