@@ -5,3 +5,4 @@ pub mod SiteLines
 pub mod Placing
 pub mod Standing
 pub mod SiteTexts
+mod Examples

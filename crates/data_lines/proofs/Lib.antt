@@ -1,3 +1,4 @@
 mod Faults
 mod Cuts
 pub mod DataLaws
+mod Examples

@@ -1,9 +1,13 @@
 -- Worked examples of the definitions that no test of a function shows by itself, on literals.
-use Rattle.std.proofs.Common.{◌≡◌, ℤ, pos, negsuc, ap, refl, arith}
+use Rattle.std.proofs.Common.{◌≡◌, ◌∷◌, [], ℤ, pos, negsuc, codes, ap, refl, arith}
 use Rattle.std.proofs.lemmas.Int.{ints}
+use Rattle.std.proofs.lemmas.List.Elements.{All-nil, All-cons}
 use Rattle.lattice_algebra.specs.Matrix.{Column, scaled, times, identity, origin}
 use Rattle.lattice_algebra.specs.Operator.{Operator}
+use Rattle.triplet_text.specs.Bytes.{space}
+use Rattle.triplet_text.specs.Dividers.{IsDivider, percents, AreDivided, divided}
 use Rattle.triplet_text.specs.Printing.{IsPrintable, IsSameMap}
+use Rattle.triplet_text.proofs.Dividers.{divider_to}
 
 -- x,y,z+1 over 2 has the translation 48, and over 1 the translation 24
 abbrev doubled : ℤ → Operator
@@ -37,3 +41,18 @@ printable =
 not_printable : IsPrintable 1 wide → ⊥
 unfolding scaled
 not_printable p = omega (arith, p.narrow.x.first)
+
+-- ---- dividers
+
+divider : IsDivider (codes " %% ")
+divider = percents (space ∷ []) (space ∷ []) (refl, tt) (refl, tt)
+
+not_three : IsDivider (codes "%%%") → ⊥
+not_three d = let e = divider_to d in absurd cc
+
+not_behind_more : IsDivider (codes "x,y,z") → ⊥
+not_behind_more d = let e = divider_to d in absurd cc
+
+-- what stands behind the first divider is data, another divider too
+division : AreDivided (codes "x,y,z" ∷ codes "%%" ∷ codes "A 0 0 0" ∷ codes "%%" ∷ []) (codes "x,y,z" ∷ []) (codes "A 0 0 0" ∷ codes "%%" ∷ []) 3
+division = divided {head = codes "x,y,z" ∷ []} (codes "%%") (percents [] [] tt tt) (All-cons (λ line. ¬ IsDivider line) (codes "x,y,z") [] not_behind_more (All-nil (λ line. ¬ IsDivider line)))
