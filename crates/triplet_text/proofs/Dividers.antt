@@ -1,5 +1,5 @@
 -- Lines that are dividers, and the lines of an input before and after one.
-use Rattle.std.proofs.Common.{◌≡◌, ℕ, ◌+◌, ◌-◌, false, List, [], ◌∷◌, ◌++◌, length, take, drop, codes, eqb, Option, Some, None, Bor, MatchOption, inl, inr, sym, ap, subst, ◌∙◌, refl, arith, length-append, append_assoc}
+use Rattle.std.proofs.Common.{◌≤◌, ◌<◌, ◌≡◌, ℕ, ◌+◌, ◌-◌, false, List, [], ◌∷◌, ◌++◌, length, take, drop, codes, eqb, Option, Some, None, Bor, MatchOption, inl, inr, sym, ap, subst, ◌∙◌, refl, arith, length-append, append_assoc}
 use Rattle.std.specs.List.{All}
 use Rattle.std.proofs.lemmas.List.{append-nil, take_at, drop_at, drop_all}
 use Rattle.std.proofs.lemmas.List.Elements.{All-nil, All-cons, All-append}
@@ -127,3 +127,8 @@ module _ (bytes text : List ℕ) (head number : ℕ) (p : IsPassed bytes text he
       → IsUnderWay bytes rest (length bytes - n) (number + 1)
   passed_on None n cut e d = all_passed bytes text head number p line one cut d
   passed_on (Some more) n cut e d = subst (λ k. IsUnderWay bytes (Some more) (length bytes - k) (number + 1)) (sym e) (passed_more bytes text head number p line one more.now cut d)
+
+-- the divider begins before the line behind it
+pub in_order : (bytes text : List ℕ) (head number : ℕ) → IsPassed bytes text head number → (line : List ℕ) (rest : Option (Bor (List ℕ))) (n : ℕ) → MatchOption rest (line ≡ text) (λ more. length more.now < length text) → MatchOption rest (n ≡ 0) (λ more. n ≡ length more.now) → head ≤ length bytes - n
+in_order bytes text head number p line None n s e = omega (arith, e, p.place, ap length p.cut, length-append p.front text)
+in_order bytes text head number p line (Some more) n s e = omega (arith, e, s, p.place, ap length p.cut, length-append p.front text)
