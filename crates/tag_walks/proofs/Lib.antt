@@ -2,4 +2,5 @@ pub mod Digits
 pub mod Walks
 pub mod Firsts
 pub mod Whole
+pub mod Sums
 mod Examples
