@@ -1,6 +1,6 @@
 -- Values at the places of a region: a class has one total, whatever list has it, and the totals of the classes of all lines have
 -- the total of all values as theirs.
-use Rattle.std.proofs.Common.{◌≡◌, ◌≢◌, ℕ, ◌↔◌, eqb, List, [], ◌∷◌, ◌++◌, map, ap, sym, ◌∙◌, subst, refl, arith, Contains, AllPairs}
+use Rattle.std.proofs.Common.{◌≡◌, ◌≢◌, ℕ, ◌↔◌, eqb, Bool, true, false, cond, List, [], ◌∷◌, ◌++◌, map, filter, get_or, ap, sym, ◌∙◌, subst, refl, arith, Contains, AllPairs}
 use Rattle.std.specs.List.{IsDistinct}
 use Rattle.std.proofs.lemmas.Bool.Decides.{Decides-eqb}
 use Rattle.std.proofs.lemmas.List.Kept.{AllPairs-cons}
@@ -10,7 +10,8 @@ use Rattle.finite_groups.proofs.Members as lists
 use Rattle.finite_groups.proofs.Pairs.{AllPairs-first, AllPairs-rest}
 use Rattle.finite_groups.proofs.Permuted.{total-map}
 use Rattle.finite_groups.proofs.Totals.{total, total-same}
-use Rattle.tag_walks.specs.Regions.{Region, IsRegion, IsFull, IsClassOf, Lines, IsFirstList}
+use Rattle.tag_walks.specs.Regions.{Region, IsRegion, IsFull, IsClassOf, AreFirstPlaces, Lines, IsFirstList}
+use Rattle.tag_walks.proofs.FirstPlaces.{one_first_place}
 use Rattle.tag_walks.proofs.Whole.{all_of, upto, Contains-upto, Contains-from_upto, AllPairs-upto, AllPairs-agree, gathered, Contains-from_gathered, apart, in_all, one_line_each}
 
 AllPairs-map : {X Y : Type 0} (P : Y → Y → Type 0) (f : X → Y) (xs : List X) → AllPairs (λ (a b : X). P (f a) (f b)) xs → AllPairs P (map f xs)
@@ -34,6 +35,15 @@ module _ (A : Addition) where
   total-gathered f g [] = refl
   total-gathered f g (y ∷ ys) = total-append f (g y) (gathered g ys) ∙ ap (plus (total A f (g y))) (total-gathered f g ys)
 
+  -- with nothing for those that a test leaves out
+  pub total-filter : {X : Type 0} (f : X → M) (p : X → Bool) (xs : List X) → total A f (filter p xs) ≡ total A (λ x. cond (p x) (f x) none) xs
+  total-filter f p [] = refl
+  total-filter f p (x ∷ xs) = step (p x) (total-filter f p xs)
+    where
+      step : (b : Bool) → total A f (filter p xs) ≡ total A (λ x. cond (p x) (f x) none) xs → total A f (cond b (x ∷ filter p xs) (filter p xs)) ≡ plus (cond b (f x) none) (total A (λ x. cond (p x) (f x) none) xs)
+      step true e = ap (plus (f x)) e
+      step false e = e ∙ sym (unit _)
+
 module _ (R : Region) (region : IsRegion R) (A : Addition) (value : ℕ → A.M) where
   open R use {X, In, Equivalent, place, count}
 
@@ -56,6 +66,20 @@ module _ (R : Region) (region : IsRegion R) (A : Addition) (value : ℕ → A.M)
         (λ c. let r = lists.Contains-from_map place k class c in let h = (is.exactly r.0).0 r.1 in subst (Contains ks) r.2 ((same r.0 h.0).0 h.1)),
         (λ c. let r = some k c in subst (Contains (map place class)) r.2 (lists.Contains-map place r.0 class ((is.exactly r.0).1 (r.1, (same r.0 r.1).1 (subst (Contains ks) (sym r.2) c))))),
       ))
+
+  -- over all places that have one first place with the element's
+  pub total_of_firsts : IsFull R → (firsts : List ℕ) → AreFirstPlaces R firsts → (x : X) → In x → (class : List X) → IsClassOf R x class
+      → total_at class ≡ total A value (filter (λ k. eqb (get_or firsts k 0) (get_or firsts (place x) 0)) (upto count))
+  total_of_firsts full firsts are x i class is =
+      let test : ℕ → Bool = λ k. eqb (get_or firsts k 0) (get_or firsts (place x) 0) in
+      total_of_class x class (filter test (upto count)) is (lists.distinct-filter eqb Decides-eqb test (upto count) (distinct-upto count))
+      (λ y j.
+      let one = one_first_place R firsts region are x y i j in
+      let d = Decides-eqb (get_or firsts (place y) 0) (get_or firsts (place x) 0) in (
+        (λ e. lists.Contains-filter test (place y) (upto count) (Contains-upto count (place y) (region.within y j)) (d.1 (sym (one.0 e)))),
+        (λ c. one.1 (sym (d.0 (lists.Contains-from_filter test (place y) (upto count) c).1))),
+      ))
+      (λ k c. let r = full k (Contains-from_upto count k (lists.Contains-from_filter test k (upto count) c).0) in (r.0, r.1.in_region, r.1.at_place))
 
   -- a class has one total
   pub one_total : (x y : X) (a b : List X) → In x → In y → Equivalent x y → IsClassOf R x a → IsClassOf R y b → total_at a ≡ total_at b

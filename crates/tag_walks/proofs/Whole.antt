@@ -82,7 +82,7 @@ module _ (R : Region) (M : Lines R) (region : IsRegion R) (classes : HasEquivale
           only = λ other c b.
               let p = listed_in list whole other c in
               let q = listed_in list whole r.0 r.1 in
-              let e = one_listed R M region (at other) (at r.0) p q (region.on (at other) x (at r.0) p.in_region i q.in_region b (region.back (at r.0) x q.in_region i a)) in
+              let e = one_listed R region (at other) (at r.0) p q (region.on (at other) x (at r.0) p.in_region i q.in_region b (region.back (at r.0) x q.in_region i a)) in
               one_line other r.0 (All-contains IsLine list other whole.lines c) (All-contains IsLine list r.0 whole.lines r.1) e;
         },
       )
