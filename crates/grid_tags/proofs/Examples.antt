@@ -1,5 +1,5 @@
 -- Worked examples: the definitions on literals, most for P-1 in a grid of 3, 1 and 1 points; nothing cites these.
-use Rattle.std.proofs.Common.{◌≡◌, ◌≢◌, ◌<◌, ◌⊎◌, ◌↔◌, ℕ, zero, suc, ℤ, pos, negsuc, ◌*ℤ◌, true, false, List, [], ◌∷◌, get_or, inl, inr, ⊎_elim, Contains, ap, sym, ◌∙◌, subst, refl, arith}
+use Rattle.std.proofs.Common.{◌≡◌, ◌≢◌, ◌<◌, ◌⊎◌, ℕ, zero, suc, ℤ, pos, negsuc, ◌*ℤ◌, Bool, true, false, List, [], ◌∷◌, get_or, inl, inr, ⊎_elim, Contains, ap, sym, ◌∙◌, subst, refl, arith}
 use Rattle.std.proofs.lemmas.Bool.{false≢true}
 use Rattle.std.proofs.lemmas.Int.{ints}
 use Rattle.std.proofs.lemmas.List.Kept.{AllPairs-cons}
@@ -12,11 +12,11 @@ use Rattle.lattice_algebra.proofs.Examples.{column, inversion, inverting, both, 
 use Rattle.group_closure.proofs.Examples.{group_of_both}
 use Rattle.grid_tags.specs.declared.line.GridLine.{GridLine}
 use Rattle.grid_tags.specs.Grids.{Grid, Triple, IsSide, IsGridInRange, IsGridImage, IsKeptBy, IsKept, IsInGrid, ComesBefore, column_at, triple_of, place_of}
-use Rattle.tag_walks.specs.Regions.{Region, IsListed}
+use Rattle.tag_walks.specs.Regions.{Region, IsListed, IsFirstOf}
 use Rattle.tag_walks.proofs.Walks as walks
-use Rattle.grid_tags.specs.GridLists.{grid_region, grid_lines, AreInOneOrbit, IsGridOrbit, IsGridLine, IsGridList, IsOnlyLineOf}
+use Rattle.grid_tags.specs.GridLists.{grid_region, grid_lines, AreFirstPoints, AreInOneOrbit, IsGridOrbit, IsGridLine, IsGridList, IsOnlyLineOf}
 use Rattle.grid_tags.specs.Walks.{IsTagged, IsWalk}
-use Rattle.grid_tags.specs.Steps.{IsWhole, IsAxisKept, AreAxesKept, act, turned, moved, fixing_count, IsReached, AreReached}
+use Rattle.grid_tags.specs.Steps.{IsWhole, IsAxisKept, AreAxesKept, act, turned, moved, fixing_count, IsReached, HasTag, KeepsTag, AreTagged, AreOwnPlaces}
 use Rattle.grid_tags.proofs.Images.{kept_by_axes, act_one, HasSides}
 use Rattle.grid_tags.proofs.OrbitLaws.{in_orbit, orbit_itself, orbit_back}
 use Rattle.grid_tags.proofs.Tags as tags
@@ -327,14 +327,56 @@ not_reached r = ⊎_elim (λ e. by (sym (act_one three (triple 1 0 0) (inside 1 
     by : triple 1 0 0 ≡ triple 2 0 0 → ⊥
     by e = omega (arith, same 1 2 e)
 
--- both members tag 1/3,0,0 and 2/3,0,0, and not the first of them alone
-not_all_reached : AreReached both three (triple 1 0 0) (false ∷ false ∷ false ∷ []) (false ∷ true ∷ false ∷ []) 2 → ⊥
-unfolding place_of
-not_all_reached a = false≢true ((a (triple 2 0 0) (inside 2 (omega arith))).1 (inr reached))
+abbrev untagged : List Bool
+untagged = false ∷ false ∷ false ∷ []
 
-all_reached : AreReached both three (triple 1 0 0) (false ∷ false ∷ false ∷ []) (false ∷ true ∷ true ∷ []) 2
+second_tagged : HasTag three (false ∷ true ∷ false ∷ []) (triple 1 0 0) true
+unfolding place_of
+second_tagged d = refl
+
+third_not_tagged : HasTag three (false ∷ true ∷ false ∷ []) (triple 2 0 0) true → ⊥
+unfolding place_of
+third_not_tagged t = false≢true (t false)
+
+third_kept : KeepsTag three untagged (false ∷ true ∷ false ∷ []) (triple 2 0 0)
+unfolding place_of
+third_kept d = refl
+
+second_not_kept : KeepsTag three untagged (false ∷ true ∷ false ∷ []) (triple 1 0 0) → ⊥
+unfolding place_of
+second_not_kept k = false≢true (sym (k false))
+
+-- both members tag 1/3,0,0 and 2/3,0,0, and not the first of them alone
+not_all_tagged : AreTagged both three (triple 1 0 0) true untagged (false ∷ true ∷ false ∷ []) 2 → ⊥
+not_all_tagged a = ⊎_elim (λ t. third_not_tagged t.1) (λ t. t.0 reached) (a (triple 2 0 0) (inside 2 (omega arith)))
+
+all_tagged : AreTagged both three (triple 1 0 0) true untagged (false ∷ true ∷ true ∷ []) 2
 unfolding place_of turned moved
-all_reached = each_point (λ q. IsTagged three (false ∷ true ∷ true ∷ []) q ↔ (IsTagged three (false ∷ false ∷ false ∷ []) q ⊎ IsReached both three (triple 1 0 0) q))
-    ((λ t. absurd (false≢true t)), (λ t. ⊎_elim (λ u. absurd (false≢true u)) (λ r. absurd (not_the_origin ((in_orbit both three three_sides group_of_both kept (triple 1 0 0) (triple 0 0 0) (inside 0 (omega arith))).1 r))) t))
-    ((λ t. inr (identity_operator, (0, omega arith, refl), refl)), (λ t. refl))
-    ((λ t. inr reached), (λ t. refl))
+all_tagged = each_point (λ q. (IsReached both three (triple 1 0 0) q × HasTag three (false ∷ true ∷ true ∷ []) q true) ⊎ ((¬ IsReached both three (triple 1 0 0) q) × KeepsTag three untagged (false ∷ true ∷ true ∷ []) q))
+    (inr ((λ r. not_the_origin ((in_orbit both three three_sides group_of_both kept (triple 1 0 0) (triple 0 0 0) (inside 0 (omega arith))).1 r)), (λ d. refl)))
+    (inl ((identity_operator, (0, omega arith, refl), refl), (λ d. refl)))
+    (inl (reached, (λ d. refl)))
+
+-- ---- first points: 2/3,0,0 has 1/3,0,0 as its first, the others themselves
+
+two_own : AreOwnPlaces (0 ∷ 1 ∷ 1 ∷ []) 2
+two_own zero l = refl
+two_own (suc zero) l = refl
+two_own (suc (suc k)) l = absurd (omega (arith, l))
+
+third_not_own : AreOwnPlaces (0 ∷ 1 ∷ 1 ∷ []) 3 → ⊥
+third_not_own a = omega (arith, a 2 (omega arith))
+
+first_points : AreFirstPoints both three (0 ∷ 1 ∷ 1 ∷ [])
+unfolding place_of
+first_points = record {
+  len = refl;
+  first = each_point (λ p. (q : Triple) × IsFirstOf region p q × (get_or (0 ∷ 1 ∷ 1 ∷ []) (place_of three p) 0 ≡ place_of three q))
+      (triple 0 0 0, record { listed = origin_first; equivalent = orbit_itself both three three_sides group_of_both kept (triple 0 0 0) (inside 0 (omega arith)) }, refl)
+      (triple 1 0 0, record { listed = third_first; equivalent = one_with_itself }, refl)
+      (triple 1 0 0, record { listed = third_first; equivalent = exchanged }, refl);
+}
+
+no_first_points : AreFirstPoints both three (0 ∷ 1 ∷ 2 ∷ []) → ⊥
+unfolding place_of
+no_first_points a = let r = a.first (triple 2 0 0) (inside 2 (omega arith)) in not_first (subst (IsListed region) (tags.same_place three r.0 (triple 2 0 0) r.1.listed.in_region (inside 2 (omega arith)) (sym r.2)) r.1.listed)

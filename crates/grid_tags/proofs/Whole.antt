@@ -77,7 +77,7 @@ module _ (members : List Operator) (s : Grid) (group : IsGroup members) (range :
   unfolding class_at
   right p i = is_class p (some_orbit p).0 (some_orbit p).1
 
-  full : IsFull (grid_region members s)
+  pub full : IsFull (grid_region members s)
   unfolding place_of
   full p l =
       let d = digits_below s.a s.b s.c p sides.b sides.c l in
