@@ -1,0 +1,2 @@
+pub mod SummedMaps
+pub mod Steps

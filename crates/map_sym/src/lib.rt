@@ -1,0 +1,20 @@
+//! Values at the points of a grid, summed over the orbits of a group that keeps the grid: what a map of the asymmetric unit's
+//! contributions comes to with all symmetry-equivalent ones. International Tables A for orbits; that each point of an orbit is
+//! taken once, and that values are whole numbers, are this project's own.
+//!
+//! Proved: `symmetrize` gives at each grid point of a cell the sum of the given values over the points of its orbit in the cell,
+//! each taken once, and the sum of all values as the total. The sums at two points of one orbit are equal, and those at the points
+//! of the grid list have the total as their sum: both are clauses of `symmetrize`, and laws of all summed maps
+//! (`one_sum_of_each_orbit`, `sums_of_grid_list_are_total`). Values have one summed map (`some_summed_map`, `one_summed_map`).
+#![tactic(auto)]
+
+mod gathering;
+mod laws;
+mod sym_map;
+mod values;
+
+pub use laws::{
+    one_sum_of_each_orbit, one_summed_map, some_summed_map, sums_of_grid_list_are_total,
+};
+pub use sym_map::{SymMap, symmetrize};
+pub use values::Values;
