@@ -1,1 +1,4 @@
 pub mod Sums
+pub mod OrbitSums
+pub mod OneMap
+pub mod MapSteps
