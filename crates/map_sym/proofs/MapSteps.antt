@@ -1,16 +1,16 @@
 -- What gathering at first points and spreading makes is the summed map.
-use Rattle.std.proofs.Common.{◌≡◌, ℕ, ◌<◌, ℤ, pos, Bool, cond, eqb, List, length, filter, get_or, ap, sym, ◌∙◌, subst, arith}
+use Rattle.std.proofs.Common.{◌≡◌, ℕ, ◌<◌, ℤ, pos, Bool, cond, eqb, List, length, get_or, ap, sym, ◌∙◌, subst, arith}
 use Rattle.lattice_algebra.specs.Operator.{Operator}
 use Rattle.group_closure.specs.GroupList.{IsGroup}
 use Rattle.tag_walks.proofs.FirstPlaces.{one_first_place}
 use Rattle.tag_walks.proofs.Whole.{upto}
 use Rattle.tag_walks.proofs.Sums.{total-filter, total_of_firsts}
-use Rattle.grid_tags.specs.Grids.{Triple, IsInGrid, IsGridInRange, IsKept, place_of, points}
+use Rattle.grid_tags.specs.Grids.{Grid, Triple, IsInGrid, IsGridInRange, IsKept, place_of, points}
 use Rattle.grid_tags.specs.GridLists.{AreFirstPoints}
 use Rattle.grid_tags.proofs.Tags.{place_within}
 use Rattle.grid_tags.proofs.Whole.{some_orbit}
-use Rattle.map_sym.specs.SummedMaps.{GridValues, AreAllPoints, value_at, IsOrbitSum}
-use Rattle.map_sym.specs.Steps.{gathered_at, AreGathered, AreSpread, AreWithin, IsItsOwn}
+use Rattle.map_sym.specs.SummedMaps.{GridValues, AreAllPoints, value_at, sum_over, IsOrbitSum, IsSummedMap}
+use Rattle.map_sym.specs.Steps.{gathered_at, AreSummed, AreWithin, IsItsOwn}
 use Rattle.map_sym.proofs.OrbitSums.{R, region, full, value, is_class, whole_numbers, total_is_sum, total_is_below}
 
 module _ (members : List Operator) (given : GridValues) (group : IsGroup members) (range : IsGridInRange given.size) (kept : IsKept members given.size) (firsts : List ℕ) (are : AreFirstPoints members given.size firsts) where
@@ -34,9 +34,8 @@ module _ (members : List Operator) (given : GridValues) (group : IsGroup members
   pub own : IsItsOwn firsts
   own k l = (first_at k l).1
 
-  pub summed : (sums new : List ℤ) → length sums ≡ count → AreAllPoints given → AreGathered firsts given.values sums (length given.values) → AreSpread firsts sums new (length sums)
-      → (p : Triple) → IsInGrid given.size p → IsOrbitSum members given p (get_or new (place_of given.size p) (pos 0))
-  summed sums new len all gathered spread p i =
+  pub summed : (sums : List ℤ) → AreAllPoints given → AreSummed firsts given.values sums → (p : Triple) → IsInGrid given.size p → IsOrbitSum members given p (get_or sums (place_of given.size p) (pos 0))
+  summed sums all are_summed p i =
       let o = some_orbit members given.size group range kept p in
       let k = place_of given.size p in
       let first = get_or firsts k 0 in
@@ -46,11 +45,22 @@ module _ (members : List Operator) (given : GridValues) (group : IsGroup members
         orbit = o.0;
         is_orbit = o.1;
         is_sum =
-            spread k (omega (arith, inside, len))
-            ∙ gathered first (within (length sums) len k (omega (arith, inside, are.len)))
+            are_summed k (omega (arith, inside, all))
             ∙ ap (gathered_at firsts given.values first) all
             ∙ sym (total_is_below (λ j. cond (test j) (get_or given.values j (pos 0)) (pos 0)) count)
             ∙ sym (total-filter whole_numbers (value members given group range kept) test (upto count))
             ∙ sym (total_of_firsts (R members given group range kept) (region members given group range kept) whole_numbers (value members given group range kept) (full members given group range kept) firsts are p i o.0 (is_class members given group range kept p o.0 o.1))
             ∙ total_is_sum (value_at given) o.0;
+      }
+
+  -- what was read of lists that were lent
+  pub is_summed : (s : Grid) (read : List ℕ) (values new items : List ℤ) (sum : ℤ) → s ≡ given.size → read ≡ firsts → values ≡ given.values → items ≡ new → length new ≡ count → AreAllPoints given
+      → AreSummed read values new → sum ≡ sum_over (λ (v : ℤ). v) values → IsSummedMap members given (record { sums = record { size = s; values = items }; total = sum })
+  is_summed s read values new items sum size r v e len all are_summed total =
+      let now : AreSummed firsts given.values items = subst (AreSummed firsts given.values) (sym e) (subst (λ f. AreSummed f given.values new) r (subst (λ z. AreSummed read z new) v are_summed)) in
+      record {
+        size = size;
+        all = ap length e ∙ len ∙ ap points (sym size);
+        sums = λ p i. subst (λ (z : Grid). IsOrbitSum members given p (get_or items (place_of z p) (pos 0))) (sym size) (summed items all now p i);
+        total = total ∙ ap (sum_over (λ (z : ℤ). z)) v;
       }

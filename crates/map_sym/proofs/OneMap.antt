@@ -1,15 +1,14 @@
 -- Values have a summed map, and one only.
-use Rattle.std.proofs.Common.{◌≡◌, ℕ, zero, suc, ◌+◌, ◌<◌, ◌≤◌, ℤ, pos, List, [], ◌∷◌, ◌++◌, length, length-append, get_or, ⊎_elim, ap, sym, ◌∙◌, subst, refl, arith}
+use Rattle.std.proofs.Common.{◌≡◌, ℕ, zero, suc, ◌<◌, ◌≤◌, ℤ, pos, List, [], ◌∷◌, ◌++◌, length, length-append, get_or, ⊎_elim, ap, sym, ◌∙◌, subst, refl, arith}
 use Rattle.std.proofs.lemmas.Bool.{cases_lt}
 use Rattle.std.proofs.lemmas.List.{ext_get_or, get_or_append_left}
 use Rattle.std.proofs.Math.Seq.{get_or-append_seam}
 use Rattle.lattice_algebra.specs.Operator.{Operator}
 use Rattle.group_closure.specs.GroupList.{IsGroup}
-use Rattle.tag_walks.specs.Regions.{IsAt}
 use Rattle.grid_tags.specs.Grids.{Grid, Triple, IsInGrid, IsGridInRange, IsKept, place_of, points}
 use Rattle.grid_tags.proofs.Tags.{place_within}
 use Rattle.map_sym.specs.SummedMaps.{GridValues, SummedMap, value_at, sum_over, IsOrbitSum, IsSummedMap}
-use Rattle.map_sym.proofs.OrbitSums.{R, region, full, some_sum, one_sum}
+use Rattle.map_sym.proofs.OrbitSums.{region, full, some_sum, one_sum}
 
 module _ (members : List Operator) (given : GridValues) (group : IsGroup members) (range : IsGridInRange given.size) (kept : IsKept members given.size) where
   -- the sum of a map at the place of a point

@@ -1,10 +1,7 @@
 -- Sums over orbits: there is one at each point, equal at the points of an orbit, and those at the points of the grid list have the sum
 -- of all values as theirs.
-use Rattle.std.proofs.Common.{◌≡◌, ℕ, zero, suc, ◌+◌, ◌<◌, ◌≤◌, ℤ, pos, ◌+ℤ◌, List, [], ◌∷◌, ◌++◌, length, length-append, get_or, ⊎_elim, inl, inr, Contains, ap, ap₂, sym, ◌∙◌, subst, refl, arith}
-use Rattle.std.proofs.lemmas.Bool.{cases_lt}
+use Rattle.std.proofs.Common.{◌≡◌, ℕ, zero, suc, ℤ, pos, ◌+ℤ◌, List, [], ◌∷◌, get_or, Contains, ap, ap₂, sym, ◌∙◌, subst, refl, arith}
 use Rattle.std.proofs.lemmas.Int.{ints}
-use Rattle.std.proofs.lemmas.List.{ext_get_or, get_or_append_left}
-use Rattle.std.proofs.Math.Seq.{get_or-append_seam}
 use Rattle.finite_groups.specs.Groups.{Addition}
 use Rattle.finite_groups.proofs.Members as lists
 use Rattle.finite_groups.proofs.Totals.{total}
@@ -14,7 +11,7 @@ use Rattle.tag_walks.specs.Regions.{Region, IsRegion, IsFull, IsClassOf}
 use Rattle.tag_walks.proofs.Whole.{upto}
 use Rattle.tag_walks.proofs.Sums.{total-append, one_total, total_of_classes}
 use Rattle.grid_tags.specs.declared.line.GridLine.{GridLine}
-use Rattle.grid_tags.specs.Grids.{Grid, Triple, IsInGrid, IsGridInRange, IsKept, place_of, points, triple_of}
+use Rattle.grid_tags.specs.Grids.{Triple, IsInGrid, IsGridInRange, IsKept, points, triple_of}
 use Rattle.grid_tags.specs.GridLists.{AreInOneOrbit, IsGridOrbit, IsGridList, grid_region, grid_lines}
 use Rattle.grid_tags.proofs.Tags as tags
 use Rattle.grid_tags.proofs.Whole as whole

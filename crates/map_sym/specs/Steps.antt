@@ -18,6 +18,10 @@ AreGathered firsts values sums n = (first : ℕ) → first < length sums → sli
 abbrev pub AreSpread : List ℕ → List ℤ → List ℤ → ℕ → Type 0
 AreSpread firsts old new n = (k : ℕ) → k < n → slice_index_or new k (pos 0) ≡ slice_index_or old (slice_index firsts k) (pos 0)
 
+-- each place has the sum of the values at all places that have its first place
+abbrev pub AreSummed : List ℕ → List ℤ → List ℤ → Type 0
+AreSummed firsts values sums = (k : ℕ) → k < length values → slice_index_or sums k (pos 0) ≡ gathered_at firsts values (slice_index firsts k) (length values)
+
 -- each first place is below n
 abbrev pub AreWithin : ℕ → List ℕ → Type 0
 AreWithin n firsts = (k : ℕ) → k < length firsts → slice_index firsts k < n

@@ -2,7 +2,7 @@ ghost use Rattle.std.specs.Prelude.{◌≡◌, IfOk};
 ghost use Rattle.grid_tags.specs.Grids.{IsInGrid, IsKept, triple_of};
 ghost use Rattle.map_sym.specs.SummedMaps.{value_at, IsSummedMap, IsOneOnEachOrbit, IsSumOverList};
 
-use crate::gathering::{gather, spread};
+use crate::gathering::sum_by_firsts;
 use crate::values::Values;
 use exact_ops::NoMemory;
 use grid_tags::{GridSize, first_points};
@@ -24,8 +24,8 @@ impl Model for SymMap {
     ghost Value = { SummedMap };
 
     ghost view = { λ m. record {
-        sums = record { size = m.size; values = m.sums.items };
-        total = m.total
+      sums = record { size = m.size; values = m.sums.items };
+      total = m.total;
     } };
 
     ghost invariant = { λ m. AreAllPoints (record { size = m.size; values = m.sums.items }) };
@@ -64,12 +64,13 @@ pub fn symmetrize(
     // The sums at the points of the grid list have the total as their sum.
     ensures total { IfOk result (λ map. IsSumOverList group.now map.sums map.total) }
 {
+    // Orbits are those of a group, and every group says that it is one where its length is asked.
+    let _ = group.len();
     let firsts = first_points(alloc, group, size)?;
     let Ok(mut sums) = vec![in alloc; 0i64; size.points()] else {
         return Err(NoMemory);
     };
-    let total = gather(&mut sums, &firsts, values.values());
-    spread(&mut sums, &firsts);
+    let total = sum_by_firsts(&mut sums, &firsts, values.values());
     Ok(SymMap {
         size: *size,
         sums,
