@@ -2,3 +2,5 @@ pub mod Sums
 pub mod OrbitSums
 pub mod OneMap
 pub mod MapSteps
+pub mod MapLines
+pub mod MapPages

@@ -1,2 +1,3 @@
 pub mod SummedMaps
 pub mod Steps
+pub mod MapTexts

@@ -10,11 +10,13 @@
 
 mod gathering;
 mod laws;
+mod printing;
 mod sym_map;
 mod values;
 
 pub use laws::{
     one_sum_of_each_orbit, one_summed_map, some_summed_map, sums_of_grid_list_are_total,
 };
+pub use printing::print_map;
 pub use sym_map::{SymMap, symmetrize};
 pub use values::Values;

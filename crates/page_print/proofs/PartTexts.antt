@@ -6,7 +6,7 @@ use Rattle.sg_io.specs.Streams.{SeenSink}
 use Rattle.page_print.specs.Lines.{IsNothing}
 use Rattle.page_print.specs.Printing.{GathersText}
 use Rattle.page_print.proofs.Gathering.{IsUnderWay, begun, one_piece, one_part, stopped, gathered_all, nothing_before}
-use Rattle.table_print.specs.Parts.{Is, Then}
+use Rattle.page_print.specs.Parts.{Is, Then}
 
 then_before : (P Q : List ℕ → Type 0) (first later : List ℕ) → P first → Q later → Then P Q (first ++ later)
 then_before P Q first later p q = record { first = first; is_first = p; later = later; is_later = q; whole = refl }
