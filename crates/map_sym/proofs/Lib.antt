@@ -4,3 +4,4 @@ pub mod OneMap
 pub mod MapSteps
 pub mod MapLines
 pub mod MapPages
+pub mod ValueLaws

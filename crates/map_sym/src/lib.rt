@@ -11,6 +11,7 @@
 mod gathering;
 mod laws;
 mod printing;
+mod reading;
 mod sym_map;
 mod values;
 
@@ -18,5 +19,6 @@ pub use laws::{
     one_sum_of_each_orbit, one_summed_map, some_summed_map, sums_of_grid_list_are_total,
 };
 pub use printing::print_map;
+pub use reading::{VALUE_DIGITS, ValueFault, read_value, read_values};
 pub use sym_map::{SymMap, symmetrize};
 pub use values::Values;
