@@ -1,25 +1,27 @@
 -- Printing a map line by line, and then its total.
-use Rattle.std.proofs.Common.{◌≡◌, ℕ, List, [], ◌∷◌, ◌++◌, Result, Ok, Err, refl, sym, subst}
+use Rattle.std.proofs.Common.{◌≡◌, ℕ, List, [], ◌∷◌, ◌++◌, Result, Ok, Err, refl, sym, subst, ◌∙◌}
 use Rattle.std.proofs.lemmas.List.Elements.{All-contains, Contains-append_right}
 use Rattle.finite_groups.proofs.Members as lists
 use Rattle.lattice_algebra.specs.Operator.{Operator}
+use Rattle.group_closure.specs.GroupList.{IsGroup}
 use Rattle.tag_walks.specs.Regions.{IsListed}
 use Rattle.grid_tags.specs.declared.line.GridLine.{GridLine}
-use Rattle.grid_tags.specs.Grids.{Grid, IsInGrid, triple_of}
+use Rattle.grid_tags.specs.Grids.{Grid, IsInGrid, IsGridInRange, IsKept, triple_of}
 use Rattle.grid_tags.specs.GridLists.{IsGridList, grid_region}
 use Rattle.grid_tags.specs.Walks.{Walk, IsWalk}
-use Rattle.grid_tags.proofs.Whole.{some_grid_list, taken_first}
+use Rattle.grid_tags.proofs.Whole.{some_grid_list, one_grid_list, taken_first}
 use Rattle.sg_io.specs.declared.sink.SinkStop.{SinkStop}
 use Rattle.sg_io.specs.Streams.{SeenSink}
-use Rattle.page_print.specs.Lines.{AddsSuch}
+use Rattle.page_print.specs.Lines.{AddsSuch, AreLines}
 use Rattle.page_print.specs.Parts.{Is}
 use Rattle.page_print.specs.Printing.{Prints, GathersText}
 use Rattle.page_print.proofs.Counting.{none_counted, counted_ok}
 use Rattle.page_print.proofs.Gathering.{pushed, printed, prints_stopped}
-use Rattle.page_print.proofs.PartTexts.{first_stopped, two_gathered}
+use Rattle.page_print.proofs.LineTexts.{some_lines, one_text}
+use Rattle.page_print.proofs.PartTexts.{first_stopped, two_gathered, some_then, one_then}
 use Rattle.page_print.proofs.WalkPages.{Listing}
 use Rattle.map_sym.specs.SummedMaps.{GridValues, SummedMap, value_at}
-use Rattle.map_sym.specs.MapTexts.{sum_text, total_text, AreSumLines, IsMapText}
+use Rattle.map_sym.specs.MapTexts.{sum_text, total_text, IsSumText, AreSumLines, IsMapText}
 
 -- the line that was taken last is that of a grid point of the cell
 pub taken_in_grid : (members : List Operator) (now : Walk) (taken : List GridLine) (line : GridLine) → IsWalk members now (taken ++ line ∷ []) → IsInGrid now.size (triple_of line.at)
@@ -69,3 +71,23 @@ module _ (members : List Operator) (map : SummedMap) {K : Type 0} (sink : SeenSi
   map_stopped mid more stop g =
       prints_stopped sink (IsMapText members map) old page empty mid more stop
       (first_stopped sink (AreSumLines members map.sums) (Is (total_text map.total)) old mid page more (total_text map.total, refl) stop g)
+
+-- ---- one text, and one only
+
+module _ (members : List Operator) (map : SummedMap) (group : IsGroup members) (range : IsGridInRange map.sums.size) (kept : IsKept members map.sums.size) where
+  some_sum_lines : (text : List ℕ) × AreSumLines members map.sums text
+  some_sum_lines =
+      let lines = some_grid_list members map.sums.size group range kept in
+      let text = some_lines (IsSumText map.sums) lines.0 (λ line m. (_, refl)) in
+      (text.0, record { lines = lines.0; is_list = lines.1; are_lines = text.1 })
+
+  one_sum_lines : (s t : List ℕ) → AreSumLines members map.sums s → AreSumLines members map.sums t → s ≡ t
+  one_sum_lines s t p q =
+      let e = one_grid_list members map.sums.size group range kept p.lines q.lines p.is_list q.is_list in
+      one_text (IsSumText map.sums) (λ line l m a b. a ∙ sym b) q.lines s t (subst (λ lines. AreLines (IsSumText map.sums) lines s) e p.are_lines) q.are_lines
+
+  pub some_map_text : (text : List ℕ) × IsMapText members map text
+  some_map_text = some_then some_sum_lines (_, refl)
+
+  pub one_map_text : (s t : List ℕ) → IsMapText members map s → IsMapText members map t → s ≡ t
+  one_map_text = one_then one_sum_lines (λ s t p q. p ∙ sym q)

@@ -1,4 +1,4 @@
-use Rattle.std.proofs.Common.{Err, w64, FitsSigned, refl, ap, sym, subst, rules, ◌∙◌, ◌++◌, ◌∷◌, []}
+use Rattle.std.proofs.Common.{Err, w64, FitsSigned, ap, sym, subst, rules, ◌∙◌, ◌++◌, ◌∷◌, []}
 use Rattle.std.proofs.lemmas.Int.{to_z-of_z}
 use Rattle.std.proofs.lemmas.Result.{err_from_is_err_and}
 use Rattle.page_print.specs.Lines.{AddsSuch}

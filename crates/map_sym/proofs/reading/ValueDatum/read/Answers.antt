@@ -1,6 +1,4 @@
-use Rattle.std.proofs.Common.{sym, subst}
-use Rattle.std.specs.Option.{IfNone}
-use Rattle.map_sym.specs.ValueLines.{IsValueLine, number_of}
+use Rattle.map_sym.specs.ValueLines.{number_of}
 use Rattle.map_sym.proofs.reading.ValueDatum.read.Goals as goal
 
 pub returns-in_err-number-clause-none : goal.returns-in_err-number-clause-none
