@@ -1,4 +1,4 @@
--- Worked examples: the definitions on literals, most for P-1 in a grid of 3, 1 and 1 points; nothing cites these.
+-- Worked examples: the definitions on literals, most for P-1 in a grid of 3, 1 and 1 points; nothing but examples cites these.
 use Rattle.std.proofs.Common.{◌≡◌, ◌≢◌, ◌<◌, ◌⊎◌, ℕ, zero, suc, ℤ, pos, negsuc, ◌*ℤ◌, Bool, true, false, List, [], ◌∷◌, get_or, inl, inr, ⊎_elim, Contains, ap, sym, ◌∙◌, subst, refl, arith}
 use Rattle.std.proofs.lemmas.Bool.{false≢true}
 use Rattle.std.proofs.lemmas.Int.{ints}
@@ -25,10 +25,10 @@ use Rattle.grid_tags.proofs.Tags.{line_is}
 abbrev o : ℤ
 o = pos 0
 
-abbrev sides : ℕ → ℕ → ℕ → Grid
+abbrev pub sides : ℕ → ℕ → ℕ → Grid
 sides a b c = record { a = a; b = b; c = c }
 
-abbrev triple : ℕ → ℕ → ℕ → Triple
+abbrev pub triple : ℕ → ℕ → ℕ → Triple
 triple i j k = record { i = i; j = j; k = k }
 
 same : (m n : ℕ) → triple m 0 0 ≡ triple n 0 0 → m ≡ n
@@ -111,7 +111,7 @@ not_axis k = not_across k.second
 abbrev half_on : Operator
 half_on = record { w = identity; t = column (pos 12) o o }
 
-abbrev three : Grid
+abbrev pub three : Grid
 three = sides 3 1 1
 
 beside : IsKeptBy three half_on → ⊥
@@ -134,7 +134,7 @@ no_shift_across = record { second = (o, refl); third = (o, refl); shift = (o, re
 no_shift_along : IsAxisKept o o o 1 1 3
 no_shift_along = record { second = (o, refl); third = (o, refl); shift = (o, refl) }
 
-three_sides : HasSides three
+pub three_sides : HasSides three
 three_sides = record { a = omega arith; b = omega arith; c = omega arith }
 
 inverting_axes : AreAxesKept three inverting
@@ -143,12 +143,12 @@ inverting_axes = record { x = no_shift; y = no_shift_across; z = no_shift_across
 identity_axes : AreAxesKept three identity_operator
 identity_axes = record { x = no_shift; y = no_shift_across; z = no_shift_across }
 
-kept : IsKept both three
+pub kept : IsKept both three
 kept f c = kept_by_axes three three_sides f (⊎_elim (λ e. subst (AreAxesKept three) e identity_axes) (λ e. subst (AreAxesKept three) e inverting_axes) (in_both f c))
 
 -- ---- orbits: in 3 1 1 the inversion exchanges 1/3,0,0 and 2/3,0,0
 
-inside : (n : ℕ) → n < 3 → IsInGrid three (triple n 0 0)
+pub inside : (n : ℕ) → n < 3 → IsInGrid three (triple n 0 0)
 inside n l = record { i = l; j = omega arith; k = omega arith }
 
 -- a point of the grid goes to itself and to its image
@@ -157,16 +157,16 @@ images p q i j a =
     let r = (in_orbit both three three_sides group_of_both kept p q j).0 a in
     ⊎_elim (λ e. inl (sym (act_one three p i) ∙ ap (λ f. act three f p) e ∙ r.2)) (λ e. inr (ap (λ f. act three f p) e ∙ r.2)) (in_both r.0 r.1)
 
-exchanged : AreInOneOrbit both three (triple 1 0 0) (triple 2 0 0)
+pub exchanged : AreInOneOrbit both three (triple 1 0 0) (triple 2 0 0)
 unfolding operator_of modulo ◌·ᶜ◌ ◌+ᶜ◌ times
 exchanged = (record { w = inversion; s = column (pos 24) o o }, (1, omega arith, refl), refl)
 
-alone : (n : ℕ) → n < 3 → AreInOneOrbit both three (triple 0 0 0) (triple n 0 0) → n ≡ 0
+pub alone : (n : ℕ) → n < 3 → AreInOneOrbit both three (triple 0 0 0) (triple n 0 0) → n ≡ 0
 unfolding turned moved
 alone n l a = ⊎_elim (λ e. sym (ap (λ (p : Triple). p.i) e)) (λ e. sym (ap (λ (p : Triple). p.i) e)) (images (triple 0 0 0) (triple n 0 0) (inside 0 (omega arith)) (inside n l) a)
 
 -- what holds of the three points holds of each point of the grid
-each_point : (P : Triple → Type 0) → P (triple 0 0 0) → P (triple 1 0 0) → P (triple 2 0 0) → (q : Triple) → IsInGrid three q → P q
+pub each_point : (P : Triple → Type 0) → P (triple 0 0 0) → P (triple 1 0 0) → P (triple 2 0 0) → (q : Triple) → IsInGrid three q → P q
 each_point P a b c q i = subst P (λ h. record { i = q.i; j = below_one q.j i.j h; k = below_one q.k i.k h }) (by q.i i.i)
   where
     below_one : (n : ℕ) → n < 1 → 0 ≡ n
@@ -178,7 +178,7 @@ each_point P a b c q i = subst P (λ h. record { i = q.i; j = below_one q.j i.j 
     by (suc (suc zero)) l = c
     by (suc (suc (suc n))) l = absurd (omega (arith, l))
 
-abbrev pair : List Triple
+abbrev pub pair : List Triple
 pair = triple 1 0 0 ∷ triple 2 0 0 ∷ []
 
 not_the_origin : AreInOneOrbit both three (triple 1 0 0) (triple 0 0 0) → ⊥
@@ -194,7 +194,7 @@ not_the_origin a = ⊎_elim (λ e. by e) (λ e. by' e) (images (triple 1 0 0) (t
 one_with_itself : AreInOneOrbit both three (triple 1 0 0) (triple 1 0 0)
 one_with_itself = orbit_itself both three three_sides group_of_both kept (triple 1 0 0) (inside 1 (omega arith))
 
-pair_is_orbit : IsGridOrbit both three (triple 1 0 0) pair
+pub pair_is_orbit : IsGridOrbit both three (triple 1 0 0) pair
 pair_is_orbit = record {
   exactly = λ q. ((λ c. in_pair q c (λ q. IsInGrid three q × AreInOneOrbit both three (triple 1 0 0) q) (inside 1 (omega arith), one_with_itself) (inside 2 (omega arith), exchanged)), (λ h. each_point (λ q. AreInOneOrbit both three (triple 1 0 0) q → Contains pair q) (λ a. absurd (not_the_origin a)) (λ a. (0, omega arith, refl)) (λ a. (1, omega arith, refl)) q h.0 h.1));
   once = AllPairs-cons (λ p q. p ≢ q) (triple 1 0 0) (triple 2 0 0 ∷ []) (All-from_recursion (λ q. triple 1 0 0 ≢ q) (triple 2 0 0 ∷ []) (apart, tt)) (λ i j d l m. absurd (omega arith));
@@ -224,7 +224,7 @@ one_fixes = refl
 
 -- ---- the grid list: 0 0 0, of size 1, and 1 0 0, of size 2
 
-abbrev line : ℕ → ℕ → GridLine
+abbrev pub line : ℕ → ℕ → GridLine
 line i n = record { at = i ∷ 0 ∷ 0 ∷ []; size = n }
 
 origin_line : IsGridLine both three (line 0 1)
@@ -257,7 +257,7 @@ third_first = record { in_region = inside 1 (omega arith); first = each_point (�
 not_first : IsListed region (triple 2 0 0) → ⊥
 not_first l = l.first (triple 1 0 0) (inside 1 (omega arith)) (orbit_back both three three_sides group_of_both kept (triple 1 0 0) (triple 2 0 0) (inside 1 (omega arith)) (inside 2 (omega arith)) exchanged) (inl (omega arith))
 
-grid_list : IsGridList both three (line 0 1 ∷ line 1 2 ∷ [])
+pub grid_list : IsGridList both three (line 0 1 ∷ line 1 2 ∷ [])
 grid_list = record {
   exactly = λ p. (
     (λ c. ⊎_elim (λ e. subst (IsListed region) e origin_first) (λ d. ⊎_elim (λ e. subst (IsListed region) e third_first) (λ n. lists.not_in_nil p n) (lists.Contains-cases p (triple 1 0 0) [] d)) (lists.Contains-cases p (triple 0 0 0) (triple 1 0 0 ∷ []) c)),

@@ -8,4 +8,4 @@ pub mod Stored
 pub mod Whole
 pub mod FirstPoints
 pub mod KeptOrNot
-mod Examples
+pub mod Examples

@@ -5,3 +5,4 @@ pub mod MapSteps
 pub mod MapLines
 pub mod MapPages
 pub mod ValueLaws
+mod Examples
