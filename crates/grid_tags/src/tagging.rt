@@ -8,8 +8,8 @@ use crate::image::{moved, turned};
 use crate::ratios::Ratios;
 use group_closure::Group;
 
-/// Gives the images of a grid point this tag, and counts the members that take it to itself. A rotation part is asked once for its
-/// run.
+/// Gives the images of a grid point this tag, and counts the members that take it to itself. A rotation part is asked once for
+/// its run.
 pub fn tag_orbit<T: Copy>(
     tags: &mut [T],
     tag: T,

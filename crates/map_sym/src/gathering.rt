@@ -4,8 +4,8 @@ ghost use Rattle.grid_tags.specs.declared.TheConstants.{MAX_POINTS};
 ghost use Rattle.map_sym.specs.SummedMaps.{sum_over};
 ghost use Rattle.map_sym.specs.Steps.{AreGathered, AreSpread, AreSummed, AreWithin, IsItsOwn};
 
-/// Gives each place the sum of the values at all places that have its first place; a first place has itself. The result is the sum of
-/// all values.
+/// Gives each place the sum of the values at all places that have its first place; a first place has itself. The result is the
+/// sum of all values.
 pub fn sum_by_firsts(sums: &mut [i64], firsts: &[u32], values: &[i32]) -> i64
     requires few { length values.now ≤ MAX_POINTS }
     requires firsts { length firsts.now ≡ length values.now }

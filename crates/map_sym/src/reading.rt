@@ -23,8 +23,8 @@ pub enum ValueFault {
     NoMemory,
 }
 
-/// The value that a line writes: one field of at most `VALUE_DIGITS` digits with a sign before them or none. None exactly where it
-/// writes none.
+/// The value that a line writes: one field of at most `VALUE_DIGITS` digits with a sign before them or none. None exactly where
+/// it writes none.
 pub fn read_value(line: &[u8]) -> Option<i32>
     ensures some { IfSome result (IsValueLine line.now) }
     ensures none { IfNone result ((value : ℤ) → IsValueLine line.now value → ⊥) }

@@ -48,8 +48,8 @@ impl SymMap {
     }
 }
 
-/// The values summed over the orbits of the group, which keeps the grid: at each grid point of the cell the sum of the values at the
-/// points of its orbit, each taken once. It takes twelve bytes for each grid point of a cell, and leaves eight in use.
+/// The values summed over the orbits of the group, which keeps the grid: at each grid point of the cell the sum of the values at
+/// the points of its orbit, each taken once. It takes twelve bytes for each grid point of a cell, and leaves eight in use.
 pub fn symmetrize(
     alloc: Global,
     group: &Group,
