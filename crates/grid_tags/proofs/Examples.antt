@@ -1,5 +1,5 @@
--- Worked examples: the definitions on literals, most for P-1 in a grid of 3, 1 and 1 points; nothing cites these.
-use Rattle.std.proofs.Common.{◌≡◌, ◌≢◌, ◌<◌, ◌⊎◌, ◌↔◌, ℕ, zero, suc, ℤ, pos, negsuc, ◌*ℤ◌, true, false, List, [], ◌∷◌, get_or, inl, inr, ⊎_elim, Contains, ap, sym, ◌∙◌, subst, refl, arith}
+-- Worked examples: the definitions on literals, most for P-1 in a grid of 3, 1 and 1 points; nothing but examples cites these.
+use Rattle.std.proofs.Common.{◌≡◌, ◌≢◌, ◌<◌, ◌⊎◌, ℕ, zero, suc, ℤ, pos, negsuc, ◌*ℤ◌, Bool, true, false, List, [], ◌∷◌, get_or, inl, inr, ⊎_elim, Contains, ap, sym, ◌∙◌, subst, refl, arith}
 use Rattle.std.proofs.lemmas.Bool.{false≢true}
 use Rattle.std.proofs.lemmas.Int.{ints}
 use Rattle.std.proofs.lemmas.List.Kept.{AllPairs-cons}
@@ -12,11 +12,11 @@ use Rattle.lattice_algebra.proofs.Examples.{column, inversion, inverting, both, 
 use Rattle.group_closure.proofs.Examples.{group_of_both}
 use Rattle.grid_tags.specs.declared.line.GridLine.{GridLine}
 use Rattle.grid_tags.specs.Grids.{Grid, Triple, IsSide, IsGridInRange, IsGridImage, IsKeptBy, IsKept, IsInGrid, ComesBefore, column_at, triple_of, place_of}
-use Rattle.tag_walks.specs.Regions.{Region, IsListed}
+use Rattle.tag_walks.specs.Regions.{Region, IsListed, IsFirstOf}
 use Rattle.tag_walks.proofs.Walks as walks
-use Rattle.grid_tags.specs.GridLists.{grid_region, grid_lines, AreInOneOrbit, IsGridOrbit, IsGridLine, IsGridList, IsOnlyLineOf}
+use Rattle.grid_tags.specs.GridLists.{grid_region, grid_lines, AreFirstPoints, AreInOneOrbit, IsGridOrbit, IsGridLine, IsGridList, IsOnlyLineOf}
 use Rattle.grid_tags.specs.Walks.{IsTagged, IsWalk}
-use Rattle.grid_tags.specs.Steps.{IsWhole, IsAxisKept, AreAxesKept, act, turned, moved, fixing_count, IsReached, AreReached}
+use Rattle.grid_tags.specs.Steps.{IsWhole, IsAxisKept, AreAxesKept, act, turned, moved, fixing_count, IsReached, HasTag, KeepsTag, AreTagged, AreOwnPlaces}
 use Rattle.grid_tags.proofs.Images.{kept_by_axes, act_one, HasSides}
 use Rattle.grid_tags.proofs.OrbitLaws.{in_orbit, orbit_itself, orbit_back}
 use Rattle.grid_tags.proofs.Tags as tags
@@ -25,10 +25,10 @@ use Rattle.grid_tags.proofs.Tags.{line_is}
 abbrev o : ℤ
 o = pos 0
 
-abbrev sides : ℕ → ℕ → ℕ → Grid
+abbrev pub sides : ℕ → ℕ → ℕ → Grid
 sides a b c = record { a = a; b = b; c = c }
 
-abbrev triple : ℕ → ℕ → ℕ → Triple
+abbrev pub triple : ℕ → ℕ → ℕ → Triple
 triple i j k = record { i = i; j = j; k = k }
 
 same : (m n : ℕ) → triple m 0 0 ≡ triple n 0 0 → m ≡ n
@@ -111,7 +111,7 @@ not_axis k = not_across k.second
 abbrev half_on : Operator
 half_on = record { w = identity; t = column (pos 12) o o }
 
-abbrev three : Grid
+abbrev pub three : Grid
 three = sides 3 1 1
 
 beside : IsKeptBy three half_on → ⊥
@@ -134,7 +134,7 @@ no_shift_across = record { second = (o, refl); third = (o, refl); shift = (o, re
 no_shift_along : IsAxisKept o o o 1 1 3
 no_shift_along = record { second = (o, refl); third = (o, refl); shift = (o, refl) }
 
-three_sides : HasSides three
+pub three_sides : HasSides three
 three_sides = record { a = omega arith; b = omega arith; c = omega arith }
 
 inverting_axes : AreAxesKept three inverting
@@ -143,12 +143,12 @@ inverting_axes = record { x = no_shift; y = no_shift_across; z = no_shift_across
 identity_axes : AreAxesKept three identity_operator
 identity_axes = record { x = no_shift; y = no_shift_across; z = no_shift_across }
 
-kept : IsKept both three
+pub kept : IsKept both three
 kept f c = kept_by_axes three three_sides f (⊎_elim (λ e. subst (AreAxesKept three) e identity_axes) (λ e. subst (AreAxesKept three) e inverting_axes) (in_both f c))
 
 -- ---- orbits: in 3 1 1 the inversion exchanges 1/3,0,0 and 2/3,0,0
 
-inside : (n : ℕ) → n < 3 → IsInGrid three (triple n 0 0)
+pub inside : (n : ℕ) → n < 3 → IsInGrid three (triple n 0 0)
 inside n l = record { i = l; j = omega arith; k = omega arith }
 
 -- a point of the grid goes to itself and to its image
@@ -157,16 +157,16 @@ images p q i j a =
     let r = (in_orbit both three three_sides group_of_both kept p q j).0 a in
     ⊎_elim (λ e. inl (sym (act_one three p i) ∙ ap (λ f. act three f p) e ∙ r.2)) (λ e. inr (ap (λ f. act three f p) e ∙ r.2)) (in_both r.0 r.1)
 
-exchanged : AreInOneOrbit both three (triple 1 0 0) (triple 2 0 0)
+pub exchanged : AreInOneOrbit both three (triple 1 0 0) (triple 2 0 0)
 unfolding operator_of modulo ◌·ᶜ◌ ◌+ᶜ◌ times
 exchanged = (record { w = inversion; s = column (pos 24) o o }, (1, omega arith, refl), refl)
 
-alone : (n : ℕ) → n < 3 → AreInOneOrbit both three (triple 0 0 0) (triple n 0 0) → n ≡ 0
+pub alone : (n : ℕ) → n < 3 → AreInOneOrbit both three (triple 0 0 0) (triple n 0 0) → n ≡ 0
 unfolding turned moved
 alone n l a = ⊎_elim (λ e. sym (ap (λ (p : Triple). p.i) e)) (λ e. sym (ap (λ (p : Triple). p.i) e)) (images (triple 0 0 0) (triple n 0 0) (inside 0 (omega arith)) (inside n l) a)
 
 -- what holds of the three points holds of each point of the grid
-each_point : (P : Triple → Type 0) → P (triple 0 0 0) → P (triple 1 0 0) → P (triple 2 0 0) → (q : Triple) → IsInGrid three q → P q
+pub each_point : (P : Triple → Type 0) → P (triple 0 0 0) → P (triple 1 0 0) → P (triple 2 0 0) → (q : Triple) → IsInGrid three q → P q
 each_point P a b c q i = subst P (λ h. record { i = q.i; j = below_one q.j i.j h; k = below_one q.k i.k h }) (by q.i i.i)
   where
     below_one : (n : ℕ) → n < 1 → 0 ≡ n
@@ -178,7 +178,7 @@ each_point P a b c q i = subst P (λ h. record { i = q.i; j = below_one q.j i.j 
     by (suc (suc zero)) l = c
     by (suc (suc (suc n))) l = absurd (omega (arith, l))
 
-abbrev pair : List Triple
+abbrev pub pair : List Triple
 pair = triple 1 0 0 ∷ triple 2 0 0 ∷ []
 
 not_the_origin : AreInOneOrbit both three (triple 1 0 0) (triple 0 0 0) → ⊥
@@ -194,7 +194,7 @@ not_the_origin a = ⊎_elim (λ e. by e) (λ e. by' e) (images (triple 1 0 0) (t
 one_with_itself : AreInOneOrbit both three (triple 1 0 0) (triple 1 0 0)
 one_with_itself = orbit_itself both three three_sides group_of_both kept (triple 1 0 0) (inside 1 (omega arith))
 
-pair_is_orbit : IsGridOrbit both three (triple 1 0 0) pair
+pub pair_is_orbit : IsGridOrbit both three (triple 1 0 0) pair
 pair_is_orbit = record {
   exactly = λ q. ((λ c. in_pair q c (λ q. IsInGrid three q × AreInOneOrbit both three (triple 1 0 0) q) (inside 1 (omega arith), one_with_itself) (inside 2 (omega arith), exchanged)), (λ h. each_point (λ q. AreInOneOrbit both three (triple 1 0 0) q → Contains pair q) (λ a. absurd (not_the_origin a)) (λ a. (0, omega arith, refl)) (λ a. (1, omega arith, refl)) q h.0 h.1));
   once = AllPairs-cons (λ p q. p ≢ q) (triple 1 0 0) (triple 2 0 0 ∷ []) (All-from_recursion (λ q. triple 1 0 0 ≢ q) (triple 2 0 0 ∷ []) (apart, tt)) (λ i j d l m. absurd (omega arith));
@@ -224,7 +224,7 @@ one_fixes = refl
 
 -- ---- the grid list: 0 0 0, of size 1, and 1 0 0, of size 2
 
-abbrev line : ℕ → ℕ → GridLine
+abbrev pub line : ℕ → ℕ → GridLine
 line i n = record { at = i ∷ 0 ∷ 0 ∷ []; size = n }
 
 origin_line : IsGridLine both three (line 0 1)
@@ -257,7 +257,7 @@ third_first = record { in_region = inside 1 (omega arith); first = each_point (�
 not_first : IsListed region (triple 2 0 0) → ⊥
 not_first l = l.first (triple 1 0 0) (inside 1 (omega arith)) (orbit_back both three three_sides group_of_both kept (triple 1 0 0) (triple 2 0 0) (inside 1 (omega arith)) (inside 2 (omega arith)) exchanged) (inl (omega arith))
 
-grid_list : IsGridList both three (line 0 1 ∷ line 1 2 ∷ [])
+pub grid_list : IsGridList both three (line 0 1 ∷ line 1 2 ∷ [])
 grid_list = record {
   exactly = λ p. (
     (λ c. ⊎_elim (λ e. subst (IsListed region) e origin_first) (λ d. ⊎_elim (λ e. subst (IsListed region) e third_first) (λ n. lists.not_in_nil p n) (lists.Contains-cases p (triple 1 0 0) [] d)) (lists.Contains-cases p (triple 0 0 0) (triple 1 0 0 ∷ []) c)),
@@ -327,14 +327,56 @@ not_reached r = ⊎_elim (λ e. by (sym (act_one three (triple 1 0 0) (inside 1 
     by : triple 1 0 0 ≡ triple 2 0 0 → ⊥
     by e = omega (arith, same 1 2 e)
 
--- both members tag 1/3,0,0 and 2/3,0,0, and not the first of them alone
-not_all_reached : AreReached both three (triple 1 0 0) (false ∷ false ∷ false ∷ []) (false ∷ true ∷ false ∷ []) 2 → ⊥
-unfolding place_of
-not_all_reached a = false≢true ((a (triple 2 0 0) (inside 2 (omega arith))).1 (inr reached))
+abbrev untagged : List Bool
+untagged = false ∷ false ∷ false ∷ []
 
-all_reached : AreReached both three (triple 1 0 0) (false ∷ false ∷ false ∷ []) (false ∷ true ∷ true ∷ []) 2
+second_tagged : HasTag three (false ∷ true ∷ false ∷ []) (triple 1 0 0) true
+unfolding place_of
+second_tagged d = refl
+
+third_not_tagged : HasTag three (false ∷ true ∷ false ∷ []) (triple 2 0 0) true → ⊥
+unfolding place_of
+third_not_tagged t = false≢true (t false)
+
+third_kept : KeepsTag three untagged (false ∷ true ∷ false ∷ []) (triple 2 0 0)
+unfolding place_of
+third_kept d = refl
+
+second_not_kept : KeepsTag three untagged (false ∷ true ∷ false ∷ []) (triple 1 0 0) → ⊥
+unfolding place_of
+second_not_kept k = false≢true (sym (k false))
+
+-- both members tag 1/3,0,0 and 2/3,0,0, and not the first of them alone
+not_all_tagged : AreTagged both three (triple 1 0 0) true untagged (false ∷ true ∷ false ∷ []) 2 → ⊥
+not_all_tagged a = ⊎_elim (λ t. third_not_tagged t.1) (λ t. t.0 reached) (a (triple 2 0 0) (inside 2 (omega arith)))
+
+all_tagged : AreTagged both three (triple 1 0 0) true untagged (false ∷ true ∷ true ∷ []) 2
 unfolding place_of turned moved
-all_reached = each_point (λ q. IsTagged three (false ∷ true ∷ true ∷ []) q ↔ (IsTagged three (false ∷ false ∷ false ∷ []) q ⊎ IsReached both three (triple 1 0 0) q))
-    ((λ t. absurd (false≢true t)), (λ t. ⊎_elim (λ u. absurd (false≢true u)) (λ r. absurd (not_the_origin ((in_orbit both three three_sides group_of_both kept (triple 1 0 0) (triple 0 0 0) (inside 0 (omega arith))).1 r))) t))
-    ((λ t. inr (identity_operator, (0, omega arith, refl), refl)), (λ t. refl))
-    ((λ t. inr reached), (λ t. refl))
+all_tagged = each_point (λ q. (IsReached both three (triple 1 0 0) q × HasTag three (false ∷ true ∷ true ∷ []) q true) ⊎ ((¬ IsReached both three (triple 1 0 0) q) × KeepsTag three untagged (false ∷ true ∷ true ∷ []) q))
+    (inr ((λ r. not_the_origin ((in_orbit both three three_sides group_of_both kept (triple 1 0 0) (triple 0 0 0) (inside 0 (omega arith))).1 r)), (λ d. refl)))
+    (inl ((identity_operator, (0, omega arith, refl), refl), (λ d. refl)))
+    (inl (reached, (λ d. refl)))
+
+-- ---- first points: 2/3,0,0 has 1/3,0,0 as its first, the others themselves
+
+two_own : AreOwnPlaces (0 ∷ 1 ∷ 1 ∷ []) 2
+two_own zero l = refl
+two_own (suc zero) l = refl
+two_own (suc (suc k)) l = absurd (omega (arith, l))
+
+third_not_own : AreOwnPlaces (0 ∷ 1 ∷ 1 ∷ []) 3 → ⊥
+third_not_own a = omega (arith, a 2 (omega arith))
+
+first_points : AreFirstPoints both three (0 ∷ 1 ∷ 1 ∷ [])
+unfolding place_of
+first_points = record {
+  len = refl;
+  first = each_point (λ p. (q : Triple) × IsFirstOf region p q × (get_or (0 ∷ 1 ∷ 1 ∷ []) (place_of three p) 0 ≡ place_of three q))
+      (triple 0 0 0, record { listed = origin_first; equivalent = orbit_itself both three three_sides group_of_both kept (triple 0 0 0) (inside 0 (omega arith)) }, refl)
+      (triple 1 0 0, record { listed = third_first; equivalent = one_with_itself }, refl)
+      (triple 1 0 0, record { listed = third_first; equivalent = exchanged }, refl);
+}
+
+no_first_points : AreFirstPoints both three (0 ∷ 1 ∷ 2 ∷ []) → ⊥
+unfolding place_of
+no_first_points a = let r = a.first (triple 2 0 0) (inside 2 (omega arith)) in not_first (subst (IsListed region) (tags.same_place three r.0 (triple 2 0 0) r.1.listed.in_region (inside 2 (omega arith)) (sym r.2)) r.1.listed)

@@ -6,5 +6,6 @@ pub mod OrbitLaws
 pub mod Tags
 pub mod Stored
 pub mod Whole
+pub mod FirstPoints
 pub mod KeptOrNot
-mod Examples
+pub mod Examples

@@ -1,6 +1,7 @@
 -- The grid points of a cell as a region, and what tagging the images of a point does.
-use Rattle.std.proofs.Common.{◌≡◌, ℕ, ℤ, ◌+◌, ◌*◌, ◌/◌, ◌<◌, ◌≤◌, ◌↔◌, ◌⊎◌, Bool, true, false, cond, List, [], ◌∷◌, ◌++◌, length, get_or, set, take, slice_get, Some, inl, inr, ⊎_elim, ap, sym, ◌∙◌, subst, refl, arith, Contains, count_by, length-take}
-use Rattle.std.proofs.lemmas.List.{take_more, take_all}
+use Rattle.std.proofs.Common.{◌≡◌, ◌≢◌, ℕ, ℤ, ◌+◌, ◌*◌, ◌/◌, ◌<◌, ◌≤◌, ◌↔◌, ◌⊎◌, Bool, true, false, cond, List, [], ◌∷◌, ◌++◌, length, get_or, set, take, slice_get, Some, inl, inr, ⊎_elim, ap, sym, ◌∙◌, subst, refl, arith, Contains, count_by, length-take}
+use Rattle.std.proofs.lemmas.Bool.{cases_eq}
+use Rattle.std.proofs.lemmas.List.{take_more, take_all, get_or-set_same, get_or-set_other}
 use Rattle.std.proofs.lemmas.List.Elements.{Contains-append_cases, Contains-append_left, Contains-append_right}
 use Rattle.std.proofs.lemmas.List.Sums.{sum_by_push, count_by-le-length}
 use Rattle.std.proofs.lemmas.Option.{get_or_from_slice_get, slice_get_within}
@@ -17,7 +18,7 @@ use Rattle.grid_tags.specs.declared.line.GridLine.{GridLine}
 use Rattle.grid_tags.specs.Grids.{Grid, Triple, IsInGrid, IsGridInRange, IsKept, ComesBefore, triple_of, place_of, points}
 use Rattle.grid_tags.specs.GridLists.{AreInOneOrbit, IsGridOrbit, IsGridLine, IsGridList, grid_region, grid_lines}
 use Rattle.grid_tags.specs.Walks.{Walk, IsTagged, IsWalk}
-use Rattle.grid_tags.specs.Steps.{triple_eq, turned, moved, act, fixing_count, IsReached, AreReached}
+use Rattle.grid_tags.specs.Steps.{triple_eq, turned, moved, act, fixing_count, IsReached, HasTag, KeepsTag, AreTagged}
 use Rattle.grid_tags.proofs.Images.{HasSides, act_one}
 use Rattle.grid_tags.proofs.OrbitLaws.{triple_eq-is, in_orbit, orbit_itself, orbit_back, orbit_on, orbit_law}
 
@@ -57,8 +58,15 @@ taken_more members i f e = take_more members i f (slice_get_within members i f e
 
 module _ (members : List Operator) (s : Grid) (p : Triple) where
   -- one tag more
-  one_more : (tags : List Bool) (at : ℕ) (there q : Triple) → length tags ≡ points s → IsInGrid s there → at ≡ place_of s there → IsInGrid s q → IsTagged s (set tags at true) q ↔ (IsTagged s tags q ⊎ (q ≡ there))
-  one_more tags at there q n i e j = walks.set_one (IsInGrid s) (place_of s) (same_place s) tags at there q (omega (arith, n, place_within s there i)) i e j
+  one_more : {T : Type 0} (tags : List T) (tag : T) (at : ℕ) (there q : Triple) → length tags ≡ points s → IsInGrid s there → at ≡ place_of s there → IsInGrid s q
+      → ((q ≡ there) × HasTag s (set tags at tag) q tag) ⊎ ((q ≢ there) × KeepsTag s tags (set tags at tag) q)
+  one_more tags tag at there q n i e j = ⊎_elim
+      (λ same. inl (same_place s q there j i (same ∙ e), λ d. ap (λ k. get_or (set tags at tag) k d) same ∙ get_or-set_same tags at tag d inside))
+      (λ other. inr ((λ same. other (ap (place_of s) same ∙ sym e)), λ d. get_or-set_other tags at (place_of s q) tag d other))
+      (cases_eq (place_of s q) at)
+    where
+      inside : at < length tags
+      inside = let l = place_within s there i in omega (arith, n, e, l)
 
   reached_by : (i : ℕ) (f : Operator) (q : Triple) → slice_get members i ≡ Some f → IsReached (take (i + 1) members) s p q ↔ (IsReached (take i members) s p q ⊎ (act s f p ≡ q))
   reached_by i f q e = (
@@ -72,21 +80,24 @@ module _ (members : List Operator) (s : Grid) (p : Triple) where
         r),
   )
 
-  pub reached_more : (old tags : List Bool) (there : Triple) (i at : ℕ) (f : Operator) → length tags ≡ points s → slice_get members i ≡ Some f → IsInGrid s there → there ≡ act s f p → at ≡ place_of s there
-      → AreReached members s p old tags i → AreReached members s p old (set tags at true) (i + 1)
-  reached_more old tags there i at f n e j q a r x k =
-      let one = one_more tags at there x n j a k in
-      let by = reached_by i f x e in (
-        (λ t. ⊎_elim (λ u. ⊎_elim (λ v. inl v) (λ v. inr (by.1 (inl v))) ((r x k).0 u)) (λ u. inr (by.1 (inr (sym q ∙ sym u)))) (one.0 t)),
-        (λ t. one.1 (⊎_elim (λ v. inl ((r x k).1 (inl v))) (λ v. ⊎_elim (λ w. inl ((r x k).1 (inr w))) (λ w. inr (sym w ∙ sym q)) (by.0 v)) t)),
-      )
+  pub tagged_more : {T : Type 0} (tag : T) (old tags : List T) (there : Triple) (i at : ℕ) (f : Operator) → length tags ≡ points s → slice_get members i ≡ Some f → IsInGrid s there → there ≡ act s f p → at ≡ place_of s there
+      → AreTagged members s p tag old tags i → AreTagged members s p tag old (set tags at tag) (i + 1)
+  tagged_more tag old tags there i at f n e j q a was x k =
+      let by = reached_by i f x e in
+      ⊎_elim
+      (λ here. inl (by.1 (inr (sym q ∙ sym here.0)), here.1))
+      (λ other. ⊎_elim
+      (λ t. inl (by.1 (inl t.0), λ d. other.1 d ∙ t.1 d))
+      (λ t. inr ((λ r. ⊎_elim t.0 (λ u. other.0 (sym u ∙ sym q)) (by.0 r)), λ d. other.1 d ∙ t.1 d))
+      (was x k))
+      (one_more tags tag at there x n j a k)
 
-  reached_none : (old : List Bool) → AreReached members s p old old 0
-  reached_none old q i = ((λ t. inl t), (λ t. ⊎_elim (λ v. v) (λ r. lists.not_in_nil r.0 r.1) t))
+  tagged_none : {T : Type 0} (tag : T) (old : List T) → AreTagged members s p tag old old 0
+  tagged_none tag old q i = inr ((λ r. lists.not_in_nil r.0 r.1), λ d. refl)
 
   -- the identity stands first
-  pub reached_first : (old : List Bool) (at : ℕ) → IsGroup members → length old ≡ points s → IsInGrid s p → at ≡ place_of s p → AreReached members s p old (set old at true) 1
-  reached_first old at group n i a = reached_more old old p 0 at identity_operator n group.first i (sym (act_one s p i)) a (reached_none old)
+  pub tagged_first : {T : Type 0} (tag : T) (old : List T) (at : ℕ) → IsGroup members → length old ≡ points s → IsInGrid s p → at ≡ place_of s p → AreTagged members s p tag old (set old at tag) 1
+  tagged_first tag old at group n i a = tagged_more tag old old p 0 at identity_operator n group.first i (sym (act_one s p i)) a (tagged_none tag old)
 
   -- ---- the count
 
@@ -129,13 +140,21 @@ run_image members s p image i end f w run e v q k g l m h = q ∙ (λ z. turned 
 
 module _ (members : List Operator) (s : Grid) (sides : HasSides s) (group : IsGroup members) (kept : IsKept members s) (p : Triple) where
   -- the images are the orbit
-  pub orbit_reached : (old new : List Bool) → AreReached members s p old new (length members) → (q : Triple) → IsInGrid s q → IsTagged s new q ↔ (IsTagged s old q ⊎ AreInOneOrbit members s p q)
-  orbit_reached old new r q i =
+  pub orbit_tagged : {T : Type 0} (tag : T) (old new : List T) → AreTagged members s p tag old new (length members) → (q : Triple) → IsInGrid s q
+      → (AreInOneOrbit members s p q × HasTag s new q tag) ⊎ ((¬ AreInOneOrbit members s p q) × KeepsTag s old new q)
+  orbit_tagged tag old new are q i =
       let all = take_all (length members) members (omega arith) in
-      let o = in_orbit members s sides group kept p q i in (
-        (λ t. ⊎_elim (λ v. inl v) (λ v. inr (o.1 (v.0, subst (λ xs. Contains xs v.0) all v.1, v.2))) ((r q i).0 t)),
-        (λ t. (r q i).1 (⊎_elim (λ v. inl v) (λ v. let f = o.0 v in inr (f.0, subst (λ xs. Contains xs f.0) (sym all) f.1, f.2)) t)),
-      )
+      let o = in_orbit members s sides group kept p q i in
+      ⊎_elim
+      (λ t. inl (o.1 (t.0.0, subst (λ xs. Contains xs t.0.0) all t.0.1, t.0.2), t.1))
+      (λ t. inr ((λ a. let f = o.0 a in t.0 (f.0, subst (λ xs. Contains xs f.0) (sym all) f.1, f.2)), t.1))
+      (are q i)
+
+  pub orbit_reached : (old new : List Bool) → AreTagged members s p true old new (length members) → (q : Triple) → IsInGrid s q → IsTagged s new q ↔ (IsTagged s old q ⊎ AreInOneOrbit members s p q)
+  orbit_reached old new are q i = ⊎_elim
+      (λ t. ((λ n. inr t.0), (λ n. t.1 false)))
+      (λ t. ((λ n. inl (sym (t.1 false) ∙ n)), (λ n. ⊎_elim (λ o. t.1 false ∙ o) (λ a. absurd (t.0 a)) n)))
+      (orbit_tagged true old new are q i)
 
   exchanged : (a b c n : ℕ) → n ≡ b * a → c ≡ a → c * b ≡ n
   exchanged a b c n e f = ap (λ v. v * b) f ∙ swap a b ∙ sym e
@@ -166,7 +185,7 @@ line_is members s at n fixing sides group kept i three e some count = record {
 pub stepped : (members : List Operator) (old v : Walk) (taken : List GridLine) (p n fixing : ℕ) (at : List ℕ) (lent begun tags new : List Bool) → v ≡ old → IsWalk members old taken → lent ≡ v.tags → begun ≡ v.tags → new ≡ tags
     → IsFirstFree lent v.place p
     → IsInGrid v.size (triple_of at) → place_of v.size (triple_of at) ≡ p → length at ≡ 3 → n ≡ length members → 0 < fixing → fixing ≡ fixing_count members v.size (triple_of at) (length members)
-    → AreReached members v.size (triple_of at) begun tags (length members)
+    → AreTagged members v.size (triple_of at) true begun tags (length members)
     → IsWalk members (record { size = v.size; place = p + 1; tags = new }) (taken ++ record { at = at; size = n / fixing } ∷ [])
 stepped members old v taken p n fixing at lent begun tags new e walk a b d free i q three len some count more =
     let w = subst (λ x. IsWalk members x taken) (sym e) walk in

@@ -52,7 +52,7 @@ module _ (members : List Operator) (s : Grid) (group : IsGroup members) (range :
         },
       )
 
-  one_line : (a b : GridLine) → IsGridLine members s a → IsGridLine members s b → triple_of a.at ≡ triple_of b.at → a ≡ b
+  pub one_line : (a b : GridLine) → IsGridLine members s a → IsGridLine members s b → triple_of a.at ≡ triple_of b.at → a ≡ b
   one_line a b p q e =
       let o = some_orbit (triple_of a.at) in
       let same : a.at ≡ b.at = sym (three_numbers a.at p.three) ∙ ap numbers_of e ∙ three_numbers b.at q.three in
@@ -64,7 +64,7 @@ module _ (members : List Operator) (s : Grid) (group : IsGroup members) (range :
 
   -- ---- the whole list
 
-  class_at : Triple → List Triple
+  pub class_at : Triple → List Triple
   class_at p = (some_orbit p).0
 
   is_class : (p : Triple) (orbit : List Triple) → IsGridOrbit members s p orbit → IsClassOf (grid_region members s) p orbit
@@ -73,11 +73,11 @@ module _ (members : List Operator) (s : Grid) (group : IsGroup members) (range :
   is_orbit : (p : Triple) (orbit : List Triple) → IsClassOf (grid_region members s) p orbit → IsGridOrbit members s p orbit
   is_orbit p orbit o = record { exactly = o.exactly; once = o.once }
 
-  right : (p : Triple) → IsInGrid s p → IsClassOf (grid_region members s) p (class_at p)
+  pub right : (p : Triple) → IsInGrid s p → IsClassOf (grid_region members s) p (class_at p)
   unfolding class_at
   right p i = is_class p (some_orbit p).0 (some_orbit p).1
 
-  full : IsFull (grid_region members s)
+  pub full : IsFull (grid_region members s)
   unfolding place_of
   full p l =
       let d = digits_below s.a s.b s.c p sides.b sides.c l in

@@ -1,11 +1,11 @@
 -- The grid list: the grid points of a cell that have no earlier one in their orbit. This project's own.
-use Rattle.std.specs.Prelude.{◌≡◌, ◌≢◌, ◌↔◌, List, length}
+use Rattle.std.specs.Prelude.{◌≡◌, ◌≢◌, ◌↔◌, ℕ, List, length}
 use Rattle.std.specs.List.{AllPairs, Contains}
 use Rattle.lattice_algebra.specs.Operator.{Operator}
 use Rattle.lattice_algebra.specs.Map.{Map}
 use Rattle.exact_ops.specs.declared.TheConstants.{UNIT}
 use Rattle.space_groups.specs.Space.{IsElement}
-use Rattle.tag_walks.specs.Regions.{Region, Lines, IsFirstList, IsOnlyLine}
+use Rattle.tag_walks.specs.Regions.{Region, Lines, AreFirstPlaces, IsFirstList, IsOnlyLine}
 use Rattle.grid_tags.specs.declared.line.GridLine.{GridLine}
 use Rattle.grid_tags.specs.Grids.{Grid, Triple, IsInGrid, IsGridImage, ComesBefore, column_at, triple_of, place_of, points}
 
@@ -33,6 +33,10 @@ grid_region members s = record {
   place = place_of s;
   count = points s;
 }
+
+-- the numbers are, for each grid point of the cell by its place, the place of the first point of its orbit
+abbrev pub AreFirstPoints : List Operator → Grid → List ℕ → Type 0
+AreFirstPoints members s firsts = AreFirstPlaces (grid_region members s) firsts
 
 abbrev pub grid_lines : (members : List Operator) (s : Grid) → Lines (grid_region members s)
 grid_lines members s = record { L = GridLine; at = λ (line : GridLine). triple_of line.at; IsLine = IsGridLine members s }

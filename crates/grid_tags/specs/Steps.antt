@@ -1,5 +1,5 @@
 -- What single steps of a walk through a grid compute. Nothing outside of this crate cites them.
-use Rattle.std.specs.Prelude.{◌≡◌, ◌*◌, ◌/◌, ◌⊎◌, ◌↔◌, ◌&&◌, ℕ, ℤ, pos, ◌+ℤ◌, ◌*ℤ◌, unsigned_abs, Bool, eqb, List, take, count_by}
+use Rattle.std.specs.Prelude.{◌≡◌, ◌<◌, ◌*◌, ◌/◌, ◌⊎◌, ◌&&◌, ℕ, ℤ, pos, ◌+ℤ◌, ◌*ℤ◌, unsigned_abs, Bool, eqb, List, take, count_by, slice_index, slice_index_or}
 use Rattle.std.specs.Int.{int_rem_euclid}
 use Rattle.std.specs.Int.RustNames.{int_div}
 use Rattle.std.specs.List.{Contains}
@@ -7,8 +7,7 @@ use Rattle.lattice_algebra.specs.Matrix.{Matrix, Column}
 use Rattle.lattice_algebra.specs.Operator.{Operator}
 use Rattle.exact_ops.specs.declared.TheConstants.{UNIT}
 use Rattle.grid_tags.specs.declared.ratios.Ratios.{Ratios}
-use Rattle.grid_tags.specs.Grids.{Grid, Triple, IsInGrid}
-use Rattle.grid_tags.specs.Walks.{IsTagged}
+use Rattle.grid_tags.specs.Grids.{Grid, Triple, IsInGrid, place_of}
 
 -- ---- whether a grid is kept
 
@@ -81,6 +80,21 @@ fixing_count members s p i = count_by (λ (f : Operator). triple_eq (act s f p) 
 abbrev pub IsReached : List Operator → Grid → Triple → Triple → Type 0
 IsReached members s p q = (f : Operator) × Contains members f × (act s f p ≡ q)
 
--- tagged are the points that were, and those that the first i members make of p
-abbrev pub AreReached : List Operator → Grid → Triple → List Bool → List Bool → ℕ → Type 0
-AreReached members s p old new i = (q : Triple) → IsInGrid s q → IsTagged s new q ↔ (IsTagged s old q ⊎ IsReached (take i members) s p q)
+-- q has this tag
+abbrev pub HasTag : {T : Type 0} → Grid → List T → Triple → T → Type 0
+HasTag {T} s tags q tag = (d : T) → slice_index_or tags (place_of s q) d ≡ tag
+
+-- q has the tag that it had
+abbrev pub KeepsTag : {T : Type 0} → Grid → List T → List T → Triple → Type 0
+KeepsTag {T} s old new q = (d : T) → slice_index_or new (place_of s q) d ≡ slice_index_or old (place_of s q) d
+
+-- the points that the first i members make of p have this tag, and each other point has the one that it had
+abbrev pub AreTagged : {T : Type 0} → List Operator → Grid → Triple → T → List T → List T → ℕ → Type 0
+AreTagged members s p tag old new i = (q : Triple) → IsInGrid s q
+    → (IsReached (take i members) s p q × HasTag s new q tag) ⊎ ((¬ IsReached (take i members) s p q) × KeepsTag s old new q)
+
+-- ---- first points
+
+-- the first i numbers are those from 0 on
+abbrev pub AreOwnPlaces : List ℕ → ℕ → Type 0
+AreOwnPlaces places i = (k : ℕ) → k < i → slice_index places k ≡ k

@@ -5,7 +5,7 @@ use Rattle.group_closure.specs.GroupList.{IsGroup}
 use Rattle.tag_walks.specs.Regions.{IsTagWalk}
 use Rattle.grid_tags.specs.declared.line.GridLine.{GridLine}
 use Rattle.grid_tags.specs.Grids.{Grid, Triple, IsGridInRange, IsKept, place_of}
-use Rattle.grid_tags.specs.GridLists.{grid_region, grid_lines}
+use Rattle.grid_tags.specs.GridLists.{IsGridList, grid_region, grid_lines}
 
 -- what a walk keeps: the grid, the place that it has come to, and a tag for each place
 pub record Walk : Type 0 where
@@ -23,3 +23,8 @@ pub record IsWalk (members : List Operator) (walk : Walk) (taken : List GridLine
   pub range : IsGridInRange walk.size
   pub kept : IsKept members walk.size
   pub tags : IsTagWalk (grid_region members walk.size) (grid_lines members walk.size) walk.place walk.tags taken
+
+-- each line of the grid list was taken from the walk
+pub record IsOver (members : List Operator) (old new : Walk) (taken : List GridLine) : Type 0 where
+  pub walk : IsWalk members new taken
+  pub all : IsGridList members old.size taken

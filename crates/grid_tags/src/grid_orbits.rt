@@ -89,7 +89,7 @@ impl GridOrbits {
     {
         let place = first_free(&self.tags, self.place)?;
         let at = self.size.point_at(place);
-        let fixing = tag_orbit(&mut self.tags, &self.size, &self.ratios, group, &at);
+        let fixing = tag_orbit(&mut self.tags, true, &self.size, &self.ratios, group, &at);
         self.place = place + 1;
         Some(GridLine {
             at,

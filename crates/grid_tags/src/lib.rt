@@ -2,13 +2,14 @@
 //! orbits; which grids are kept, the order and the limits are this project's own.
 //!
 //! Proved: `accepts` says whether the group keeps the grid, and `GridOrbits::begin` refuses exactly the grids that it does not
-//! keep. The calls of `GridOrbits::next` give the lines of the grid list in order and then None; `begin` alone takes memory, a
-//! byte for each grid point of a cell. Every kept grid has one grid list (`some_grid_list`, `one_grid_list`), every grid point
-//! of a cell is in the orbit of one listed point alone (`one_line_of_each_orbit`), and the sizes of the orbits have the number
-//! of points as their sum (`sizes_of_orbits_sum_to_points`). The lines that were taken from a walk are the first of the grid
-//! list (`lines_taken_are_first`).
+//! keep. The calls of `GridOrbits::next` give the lines of the grid list in order and then None; a walk takes memory in `begin`
+//! alone, a byte for each grid point of a cell. Every kept grid has one grid list (`some_grid_list`, `one_grid_list`), every grid
+//! point of a cell is in the orbit of one listed point alone (`one_line_of_each_orbit`), and the sizes of the orbits have the
+//! number of points as their sum (`sizes_of_orbits_sum_to_points`). The lines that were taken from a walk are the first of the
+//! grid list (`lines_taken_are_first`). `first_points` gives for each grid point of a cell the first point of its orbit.
 #![tactic(auto)]
 
+mod firsts;
 mod grid_orbits;
 mod grid_size;
 mod image;
@@ -19,6 +20,7 @@ mod ratios;
 mod reduced;
 mod tagging;
 
+pub use firsts::first_points;
 pub use grid_orbits::{GridFault, GridOrbits};
 pub use grid_size::GridSize;
 pub use keeping::accepts;

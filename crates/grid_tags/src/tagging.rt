@@ -1,16 +1,18 @@
-ghost use Rattle.std.specs.Prelude.{◌≡◌, ◌+◌, ◌<◌, ◌≤◌, ℕ, Some, List, Bool, length, slice_get};
+ghost use Rattle.std.specs.Prelude.{◌≡◌, ◌+◌, ◌<◌, ◌≤◌, ℕ, Some, List, length, slice_get};
 ghost use Rattle.lattice_algebra.specs.Operator.{Operator};
 ghost use Rattle.grid_tags.specs.Grids.{IsInGrid, points, triple_of};
-ghost use Rattle.grid_tags.specs.Steps.{ratios_of, turned, fixing_count, AreReached};
+ghost use Rattle.grid_tags.specs.Steps.{ratios_of, turned, fixing_count, AreTagged};
 
 use crate::grid_size::GridSize;
 use crate::image::{moved, turned};
 use crate::ratios::Ratios;
 use group_closure::Group;
 
-/// Tags the images of a grid point, and counts the members that take it to itself. A rotation part is asked once for its run.
-pub fn tag_orbit(
-    tags: &mut [bool],
+/// Gives the images of a grid point this tag, and counts the members that take it to itself. A rotation part is asked once for
+/// its run.
+pub fn tag_orbit<T: Copy>(
+    tags: &mut [T],
+    tag: T,
     size: &GridSize,
     ratios: &Ratios,
     group: &Group,
@@ -22,25 +24,26 @@ pub fn tag_orbit(
     ensures some { 0 < result }
     ensures count { result
         ≡ fixing_count group.now size.now (triple_of at.now) (length group.now) }
-    ensures tags { AreReached group.now size.now (triple_of at.now) tags.old tags.new
+    ensures tags { AreTagged group.now size.now (triple_of at.now) tag tags.old tags.new
         (length group.now) }
 {
     let order = group.len() as u8;
-    tags[size.place(at)] = true;
+    tags[size.place(at)] = tag;
     let mut fixing = 1;
     let mut i = 1;
     while i < order {
         let image = turned(size, ratios, &group.op(i).w(), at);
         let end = group.run_end(i);
-        fixing += tag_run(tags, size, group, at, &image, i, end);
+        fixing += tag_run(tags, tag, size, group, at, &image, i, end);
         i = end;
     }
     fixing
 }
 
 /// The same for the members of a run, all of which have the rotation part that makes this image of the point.
-fn tag_run(
-    tags: &mut [bool],
+fn tag_run<T: Copy>(
+    tags: &mut [T],
+    tag: T,
     size: &GridSize,
     group: &Group,
     at: &[u16; 3],
@@ -56,15 +59,15 @@ fn tag_run(
         → triple_of image.now ≡ turned size.now f.w (triple_of at.now) }
     ensures count { fixing_count group.now size.now (triple_of at.now) start + result
         ≡ fixing_count group.now size.now (triple_of at.now) end }
-    ensures tags { (old : List Bool)
-        → AreReached group.now size.now (triple_of at.now) old tags.old start
-        → AreReached group.now size.now (triple_of at.now) old tags.new end }
+    ensures tags { (old : List T)
+        → AreTagged group.now size.now (triple_of at.now) tag old tags.old start
+        → AreTagged group.now size.now (triple_of at.now) tag old tags.new end }
 {
     let place = size.place(at);
     let mut fixing = 0;
     for i in start..end {
         let there = size.place(&moved(size, image, &group.op(i).t()));
-        tags[there] = true;
+        tags[there] = tag;
         if there == place {
             fixing += 1;
         }

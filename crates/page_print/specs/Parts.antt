@@ -1,5 +1,6 @@
 -- Texts of several parts.
-use Rattle.std.specs.Prelude.{◌≡◌, ℕ, List, ◌++◌}
+use Rattle.std.specs.Prelude.{◌≡◌, ℕ, List, [], ◌∷◌, ◌++◌, decimal}
+use Rattle.triplet_text.specs.Bytes.{line_feed}
 
 -- this text alone
 abbrev pub Is : List ℕ → List ℕ → Type 0
@@ -12,3 +13,7 @@ pub record Then (First Later : List ℕ → Type 0) (text : List ℕ) : Type 0 w
   pub later : List ℕ
   pub is_later : Later later
   pub whole : text ≡ first ++ later
+
+-- a heading: a word and a number
+abbrev pub counted : List ℕ → ℕ → List ℕ
+counted word n = word ++ decimal n ++ line_feed ∷ []

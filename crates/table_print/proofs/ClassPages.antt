@@ -6,7 +6,7 @@ use Rattle.reflections.specs.ClassLists.{IsClassList}
 use Rattle.reflections.specs.Walks.{Walk, IsWalk}
 use Rattle.reflections.proofs.Whole.{some_class_list, taken_first}
 use Rattle.table_print.specs.Classes.{class_text, IsBoxText}
-use Rattle.table_print.proofs.WalkPages.{Listing}
+use Rattle.page_print.proofs.WalkPages.{Listing}
 
 module _ (members : List Operator) (first : Walk) where
   -- these lines were taken from a walk through the box of the first

@@ -6,7 +6,7 @@ use Rattle.grid_tags.specs.GridLists.{IsGridList}
 use Rattle.grid_tags.specs.Walks.{Walk, IsWalk}
 use Rattle.grid_tags.proofs.Whole.{some_grid_list, taken_first}
 use Rattle.table_print.specs.Grids.{orbit_text, IsGridText}
-use Rattle.table_print.proofs.WalkPages.{Listing}
+use Rattle.page_print.proofs.WalkPages.{Listing}
 
 module _ (members : List Operator) (first : Walk) where
   -- these lines were taken from a walk through the grid of the first

@@ -2,13 +2,11 @@ pub mod SiteTexts
 pub mod SitePages
 pub mod TypeLines
 pub mod ClassTexts
-pub mod WalkPages
 pub mod ClassPages
 pub mod GridTexts
 pub mod GridPages
 mod RowSizes
 mod RowPages
-mod PartTexts
 pub mod TablePages
 mod RowLines
 mod SampleTexts

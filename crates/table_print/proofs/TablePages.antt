@@ -12,10 +12,10 @@ use Rattle.page_print.proofs.Gathering.{IsUnderWay, begun, printed, prints_stopp
 use Rattle.page_print.proofs.LineTexts.{some_lines, one_text}
 use Rattle.table_print.specs.Operators.{IsOperatorLine}
 use Rattle.table_print.specs.Types.{IsTypeLine, AreTypeLines}
-use Rattle.table_print.specs.Parts.{Then}
+use Rattle.page_print.specs.Parts.{Then}
 use Rattle.table_print.specs.Table.{IsOperatorPart, IsTypePart, IsRowPart, IsClassPart, IsTableText}
 use Rattle.table_print.proofs.ClassTexts.{some_box_text, one_box_text}
-use Rattle.table_print.proofs.PartTexts.{some_then, one_then, one_under, part_gathered, part_stopped, last_gathered}
+use Rattle.page_print.proofs.PartTexts.{some_then, one_then, one_under, part_gathered, part_stopped, last_gathered}
 use Rattle.table_print.proofs.TypeLines.{one_operator_line, one_type_line, some_type_line}
 
 pub some_type_lines : (members : List Operator) → IsGroup members → (text : List ℕ) × AreTypeLines members text

@@ -4,7 +4,6 @@ use Rattle.lattice_algebra.specs.Operator.{Operator}
 use Rattle.grid_tags.specs.declared.line.GridLine.{GridLine}
 use Rattle.grid_tags.specs.Grids.{Grid, triple_of}
 use Rattle.grid_tags.specs.GridLists.{IsGridList}
-use Rattle.grid_tags.specs.Walks.{Walk, IsWalk}
 use Rattle.triplet_text.specs.Bytes.{line_feed, space}
 use Rattle.page_print.specs.Lines.{AreLines}
 
@@ -22,8 +21,3 @@ pub record IsGridText (members : List Operator) (grid : Grid) (text : List ℕ) 
   pub lines : List GridLine
   pub is_list : IsGridList members grid lines
   pub are_lines : AreLines IsOrbitText lines text
-
--- each line of the grid list was taken from the walk
-pub record IsOver (members : List Operator) (old new : Walk) (taken : List GridLine) : Type 0 where
-  pub walk : IsWalk members new taken
-  pub all : IsGridList members old.size taken

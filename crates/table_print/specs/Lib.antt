@@ -4,6 +4,5 @@ pub mod Sites
 pub mod Classes
 pub mod Grids
 pub mod Rows
-pub mod Parts
 pub mod Table
 pub mod Sample

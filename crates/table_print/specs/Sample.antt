@@ -3,7 +3,7 @@ use Rattle.std.specs.Prelude.{◌≡◌, ℕ, List, [], ◌∷◌, ◌++◌, len
 use Rattle.lattice_algebra.specs.Operator.{Operator}
 use Rattle.space_groups.specs.Rows.{Row}
 use Rattle.triplet_text.specs.Bytes.{line_feed, space}
-use Rattle.table_print.specs.Parts.{Is, Then, counted}
+use Rattle.page_print.specs.Parts.{Is, Then, counted}
 use Rattle.table_print.specs.Rows.{shown_row, lines_from}
 
 -- the number of the group, and how many operators it has

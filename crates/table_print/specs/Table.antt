@@ -4,7 +4,7 @@ use Rattle.lattice_algebra.specs.Operator.{Operator}
 use Rattle.space_groups.specs.Rows.{Row}
 use Rattle.phase_rules.specs.declared.pairs.Pairs.{Pairs}
 use Rattle.reflections.specs.Boxes.{Box}
-use Rattle.table_print.specs.Parts.{Is, Then, counted}
+use Rattle.page_print.specs.Parts.{Is, Then, counted}
 use Rattle.table_print.specs.Operators.{AreOperatorLines}
 use Rattle.table_print.specs.Types.{AreTypeLines}
 use Rattle.table_print.specs.Rows.{IsRowsText}

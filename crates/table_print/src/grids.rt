@@ -3,8 +3,8 @@ ghost use Rattle.page_print.specs.declared.page.TheConstants.{PAGE_ROOM};
 ghost use Rattle.page_print.specs.Lines.{AddsSuch};
 ghost use Rattle.page_print.specs.Printing.{Prints};
 ghost use Rattle.grid_tags.specs.declared.line.GridLine.{GridLine};
-ghost use Rattle.grid_tags.specs.Walks.{IsWalk};
-ghost use Rattle.table_print.specs.Grids.{IsOrbitText, IsGridText, IsOver};
+ghost use Rattle.grid_tags.specs.Walks.{IsWalk, IsOver};
+ghost use Rattle.table_print.specs.Grids.{IsOrbitText, IsGridText};
 ghost use Rattle.table_print.specs.declared.grids.TheConstants.{ORBIT_LINE};
 
 use grid_tags::{GridLine, GridOrbits};

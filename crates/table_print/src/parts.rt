@@ -1,7 +1,7 @@
 ghost use Rattle.std.specs.Prelude.{◌≡◌, ◌≤◌, ◌+◌, OnOk, length};
 ghost use Rattle.page_print.specs.declared.page.TheConstants.{PAGE_ROOM};
 ghost use Rattle.page_print.specs.Printing.{GathersText};
-ghost use Rattle.table_print.specs.Parts.{Is, counted as word_and_number};
+ghost use Rattle.page_print.specs.Parts.{Is, counted as word_and_number};
 
 use itoa::Buffer;
 use page_print::{Page, make_room};

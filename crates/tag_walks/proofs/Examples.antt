@@ -5,7 +5,7 @@ use Rattle.std.proofs.lemmas.List.Kept.{AllPairs-cons}
 use Rattle.std.proofs.lemmas.List.Elements.{All-from_recursion}
 use Rattle.std.proofs.lemmas.List.Sums.{get_or-le-sum_by}
 use Rattle.finite_groups.proofs.Members as lists
-use Rattle.tag_walks.specs.Regions.{Region, IsRegion, IsAt, IsFull, AreEquivalents, HasEquivalents, IsClassOf, IsListed, Lines, IsFirstList, IsOnlyLine, IsFirstFree, IsTagged, IsTaken, IsTagWalk}
+use Rattle.tag_walks.specs.Regions.{Region, IsRegion, IsAt, IsFull, AreEquivalents, HasEquivalents, IsClassOf, IsListed, IsFirstOf, AreFirstPlaces, Lines, IsFirstList, IsOnlyLine, IsFirstFree, IsTagged, IsTaken, IsTagWalk}
 
 -- numbers below 3, each at the place that is given, among so many places
 abbrev numbers : (ℕ → ℕ) → ℕ → Region
@@ -136,6 +136,25 @@ one_first = record { in_region = one_in; first = each (λ y. 1 ≡ y % 2 → y <
 
 two_later : IsListed region 2 → ⊥
 two_later l = l.first 0 zero_in refl (omega arith)
+
+zero_of_two : IsFirstOf region 2 0
+zero_of_two = record { listed = zero_first; equivalent = refl }
+
+zero_not_of_one : IsFirstOf region 1 0 → ⊥
+zero_not_of_one f = zero_odd f.equivalent
+
+first_places : AreFirstPlaces region (0 ∷ 1 ∷ 0 ∷ [])
+first_places = record {
+  len = refl;
+  first = each (λ x. (y : ℕ) × IsFirstOf region x y × (get_or (0 ∷ 1 ∷ 0 ∷ []) x 0 ≡ y))
+      (0, record { listed = zero_first; equivalent = refl }, refl)
+      (1, record { listed = one_first; equivalent = refl }, refl)
+      (0, zero_of_two, refl);
+}
+
+-- 2 is no first
+not_first_places : AreFirstPlaces region (0 ∷ 1 ∷ 2 ∷ []) → ⊥
+not_first_places a = let r = a.first 2 two_in in two_later (subst (IsListed region) (sym r.2) r.1.listed)
 
 -- a line is a number, and whether it is odd
 abbrev lines : Lines region

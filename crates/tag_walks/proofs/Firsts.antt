@@ -51,7 +51,7 @@ module _ (R : Region) (M : Lines R) (region : IsRegion R) where
         let less = (region.order (at y) (at x) p.in_region (listed_of x d).in_region).0 l in
         let there : place (at y) < from = omega (arith, less, All-contains (λ (z : L). place (at z) < from) taken x walk.before d) in
         let r = (walk.tagged (at y) p.in_region).0 (walk.passed (at y) p.in_region there) in
-        let e = one_listed R M region (at r.line) (at y) (listed_of r.line r.member) p r.equivalent in
+        let e = one_listed R region (at r.line) (at y) (listed_of r.line r.member) p r.equivalent in
         subst (Contains taken) (one_line r.line y (All-contains IsLine taken r.line walk.lines r.member) (All-contains IsLine list y whole.lines c) e) r.member
 
     both_before : (a b : L) → Contains list a → Contains list b → Before (at a) (at b) → Before (at b) (at a) → ⊥

@@ -21,12 +21,8 @@ set_one {X} In place one tags p x y n i e j = (
     there : place y ≡ p → get_or (set tags p true) (place y) false ≡ true
     there q = ap (λ k. get_or (set tags p true) k false) q ∙ get_or-set_same tags p true false inside
 
-module _ (R : Region) (M : Lines R) (region : IsRegion R) where
-  open R use {X, In, Before, Equivalent, place, count}
-  open M use {L, at, IsLine}
-
-  not_both : (x y : X) → In x → In y → Before x y → Before y x → ⊥
-  not_both x y i j p q = let a = (region.order x y i j).0 p in let b = (region.order y x j i).0 q in omega (arith, a, b)
+module _ (R : Region) (region : IsRegion R) where
+  open R use {X, In, Before, Equivalent, place}
 
   -- of equivalent elements one is listed
   pub one_listed : (x y : X) → IsListed R x → IsListed R y → Equivalent x y → x ≡ y
@@ -34,6 +30,13 @@ module _ (R : Region) (M : Lines R) (region : IsRegion R) where
       let a : place y < place x → ⊥ = λ l. p.first y q.in_region e ((region.order y x q.in_region p.in_region).1 l) in
       let b : place x < place y → ⊥ = λ l. q.first x p.in_region (region.back x y p.in_region q.in_region e) ((region.order x y p.in_region q.in_region).1 l) in
       region.one x y p.in_region q.in_region (omega (arith, a, b))
+
+module _ (R : Region) (M : Lines R) (region : IsRegion R) where
+  open R use {X, In, Before, Equivalent, place, count}
+  open M use {L, at, IsLine}
+
+  not_both : (x y : X) → In x → In y → Before x y → Before y x → ⊥
+  not_both x y i j p q = let a = (region.order x y i j).0 p in let b = (region.order y x j i).0 q in omega (arith, a, b)
 
   -- a walk before its first line
   pub walk_begun : (tags : List Bool) → ((k : ℕ) → get_or tags k false ≡ false) → IsTagWalk R M 0 tags []
@@ -96,7 +99,7 @@ module _ (R : Region) (M : Lines R) (region : IsRegion R) where
         (λ c. let r = lists.Contains-from_map at x taken c in subst (IsListed R) r.2 (listed_of r.0 r.1)),
         (λ l.
             let r = (walk.tagged x l.in_region).0 (up_to count all x l.in_region (region.within x l.in_region)) in
-            subst (Contains (map at taken)) (one_listed (at r.line) x (listed_of r.line r.member) l r.equivalent) (lists.Contains-map at r.line taken r.member)),
+            subst (Contains (map at taken)) (one_listed R region (at r.line) x (listed_of r.line r.member) l r.equivalent) (lists.Contains-map at r.line taken r.member)),
       );
       lines = walk.lines;
       ordered = walk.ordered;

@@ -82,7 +82,7 @@ module _ (R : Region) (M : Lines R) (region : IsRegion R) (classes : HasEquivale
           only = λ other c b.
               let p = listed_in list whole other c in
               let q = listed_in list whole r.0 r.1 in
-              let e = one_listed R M region (at other) (at r.0) p q (region.on (at other) x (at r.0) p.in_region i q.in_region b (region.back (at r.0) x q.in_region i a)) in
+              let e = one_listed R region (at other) (at r.0) p q (region.on (at other) x (at r.0) p.in_region i q.in_region b (region.back (at r.0) x q.in_region i a)) in
               one_line other r.0 (All-contains IsLine list other whole.lines c) (All-contains IsLine list r.0 whole.lines r.1) e;
         },
       )
@@ -164,33 +164,33 @@ module _ (R : Region) (M : Lines R) (region : IsRegion R) (classes : HasEquivale
 
 -- ---- the sum of the classes
 
-abbrev upto : ℕ → List ℕ
+abbrev pub upto : ℕ → List ℕ
 upto zero = []
 upto (suc n) = upto n ++ n ∷ []
 
-length-upto : (n : ℕ) → length (upto n) ≡ n
+pub length-upto : (n : ℕ) → length (upto n) ≡ n
 length-upto zero = refl
 length-upto (suc n) = length-append (upto n) (n ∷ []) ∙ (let e = length-upto n in omega (arith, e))
 
-Contains-upto : (n k : ℕ) → k < n → Contains (upto n) k
+pub Contains-upto : (n k : ℕ) → k < n → Contains (upto n) k
 Contains-upto zero k l = absurd (omega (arith, l))
 Contains-upto (suc n) k l = ⊎_elim
     (λ m. Contains-append_left (upto n) (n ∷ []) k (Contains-upto n k m))
     (λ m. let e : n ≡ k = omega (arith, l, m) in Contains-append_right (upto n) (n ∷ []) k (subst (Contains (n ∷ [])) e (lists.Contains-here n [])))
     (cases_lt k n)
 
-Contains-from_upto : (n k : ℕ) → Contains (upto n) k → k < n
+pub Contains-from_upto : (n k : ℕ) → Contains (upto n) k → k < n
 Contains-from_upto zero k c = lists.not_in_nil k c
 Contains-from_upto (suc n) k c = ⊎_elim
     (λ d. let l = Contains-from_upto n k d in omega (arith, l))
     (λ d. ⊎_elim (λ e. omega (arith, e)) (λ d. lists.not_in_nil k d) (lists.Contains-cases k n [] d))
     (Contains-append_cases (upto n) (n ∷ []) k c)
 
-AllPairs-upto : (n : ℕ) → AllPairs (λ (a b : ℕ). a ≢ b) (upto n)
+pub AllPairs-upto : (n : ℕ) → AllPairs (λ (a b : ℕ). a ≢ b) (upto n)
 AllPairs-upto zero = λ i j d l m. absurd (omega (arith, m))
 AllPairs-upto (suc n) = AllPairs-append_one (λ (a b : ℕ). a ≢ b) (upto n) n (AllPairs-upto n) (λ k c e. let l = Contains-from_upto n k c in omega (arith, l, e))
 
-all_of : {X : Type 0} (P : X → Type 0) (xs : List X) → ((x : X) → Contains xs x → P x) → All P xs
+pub all_of : {X : Type 0} (P : X → Type 0) (xs : List X) → ((x : X) → Contains xs x → P x) → All P xs
 all_of P xs h = λ k d l. h _ (Contains-get_or xs k d l)
 
 AllPairs-append : {X : Type 0} (P : X → X → Type 0) (xs ys : List X) → AllPairs P xs → AllPairs P ys → ((x y : X) → Contains xs x → Contains ys y → P x y) → AllPairs P (xs ++ ys)
@@ -201,7 +201,7 @@ AllPairs-append P (x ∷ xs) ys s t h =
     (AllPairs-append P xs ys (AllPairs-rest P x xs s) t (λ a b c d. h a b (lists.Contains-later a x xs c) d))
 
 -- the lists of all members, one after another
-abbrev gathered : {X Y : Type 0} → (Y → List X) → List Y → List X
+abbrev pub gathered : {X Y : Type 0} → (Y → List X) → List Y → List X
 gathered f [] = []
 gathered f (y ∷ ys) = f y ++ gathered f ys
 
@@ -216,7 +216,7 @@ Contains-gathered f (z ∷ ys) y x c d = ⊎_elim
     (λ e. Contains-append_right (f z) (gathered f ys) x (Contains-gathered f ys y x e d))
     (lists.Contains-cases y z ys c)
 
-Contains-from_gathered : {X Y : Type 0} (f : Y → List X) (ys : List Y) (x : X) → Contains (gathered f ys) x → (y : Y) × Contains ys y × Contains (f y) x
+pub Contains-from_gathered : {X Y : Type 0} (f : Y → List X) (ys : List Y) (x : X) → Contains (gathered f ys) x → (y : Y) × Contains ys y × Contains (f y) x
 Contains-from_gathered f [] x c = lists.not_in_nil x c
 Contains-from_gathered f (y ∷ ys) x c = ⊎_elim
     (λ d. (y, lists.Contains-here y ys, d))
@@ -231,7 +231,7 @@ AllPairs-gathered P Q f (y ∷ ys) s t h =
     (AllPairs-gathered P Q f ys (λ z c. s z (lists.Contains-later z y ys c)) (AllPairs-rest Q y ys t) (λ u v c d. h u v (lists.Contains-later u y ys c) (lists.Contains-later v y ys d)))
     (λ a b c d. let r = Contains-from_gathered f ys b d in h y r.0 (lists.Contains-here y ys) (lists.Contains-later r.0 y ys r.1) (AllPairs-first Q y r.0 ys t r.1) a b c r.2)
 
-AllPairs-agree : {X : Type 0} (P Q : X → X → Type 0) (xs : List X) → ((a b : X) → Contains xs a → Contains xs b → P a b → Q a b) → AllPairs P xs → AllPairs Q xs
+pub AllPairs-agree : {X : Type 0} (P Q : X → X → Type 0) (xs : List X) → ((a b : X) → Contains xs a → Contains xs b → P a b → Q a b) → AllPairs P xs → AllPairs Q xs
 AllPairs-agree P Q xs h p = λ i j d l m. h _ _ (Contains-get_or xs i d (omega (arith, l, m))) (Contains-get_or xs j d m) (p i j d l m)
 
 module _ (R : Region) (M : Lines R) (region : IsRegion R) (full : IsFull R) where
@@ -246,10 +246,10 @@ module _ (R : Region) (M : Lines R) (region : IsRegion R) (full : IsFull R) wher
     listed_at : (line : L) → Contains list line → IsListed R (at line)
     listed_at line c = (whole.exactly (at line)).0 (lists.Contains-map at line list c)
 
-    no_two : (x y : X) → In x → In y → x ≢ y → (k : ℕ) → place x ≡ k → place y ≡ k → ⊥
+    pub no_two : (x y : X) → In x → In y → x ≢ y → (k : ℕ) → place x ≡ k → place y ≡ k → ⊥
     no_two x y i j n k e f = n (region.one x y i j (e ∙ sym f))
 
-    apart : AllPairs (λ (x y : X). (k : ℕ) → place x ≡ k → place y ≡ k → ⊥) (gathered class list)
+    pub apart : AllPairs (λ (x y : X). (k : ℕ) → place x ≡ k → place y ≡ k → ⊥) (gathered class list)
     apart = AllPairs-gathered (λ (x y : X). (k : ℕ) → place x ≡ k → place y ≡ k → ⊥) (λ (a b : L). Before (at a) (at b)) class list
         (λ y c. let r = right y c in AllPairs-agree (λ (a b : X). a ≢ b) (λ (x z : X). (k : ℕ) → place x ≡ k → place z ≡ k → ⊥) (class y) (λ a b d e n. no_two a b ((r.exactly a).0 d).0 ((r.exactly b).0 e).0 n) r.once)
         whole.ordered
@@ -262,7 +262,7 @@ module _ (R : Region) (M : Lines R) (region : IsRegion R) (full : IsFull R) wher
         let on : Equivalent (at z) (at y) = region.on (at z) b (at y) j v.0 i v.1 (region.back (at y) b i v.0 (subst (Equivalent (at y)) same u.1)) in
         (listed_at z d).first (at y) i on before)
 
-    in_all : (k : ℕ) → k < count → Contains (map place (gathered class list)) k
+    pub in_all : (k : ℕ) → k < count → Contains (map place (gathered class list)) k
     in_all k l =
         let x = full k l in
         let r = each x.0 x.1.in_region in

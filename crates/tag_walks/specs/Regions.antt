@@ -1,5 +1,5 @@
 -- A finite region of elements in order, an equivalence on it, and the list of the elements that have no earlier equivalent.
-use Rattle.std.specs.Prelude.{◌≡◌, ◌≢◌, ◌<◌, ◌≤◌, ◌↔◌, ℕ, Bool, true, false, List, length, map, slice_index_or}
+use Rattle.std.specs.Prelude.{◌≡◌, ◌≢◌, ◌<◌, ◌≤◌, ◌↔◌, ℕ, Bool, true, false, List, length, map, slice_index, slice_index_or}
 use Rattle.std.specs.List.{All, AllPairs, Contains}
 
 pub record Region : Type 1 where
@@ -46,6 +46,16 @@ pub record IsClassOf (R : Region) (x : R.X) (list : List R.X) : Type 0 where
 pub record IsListed (R : Region) (x : R.X) : Type 0 where
   pub in_region : R.In x
   pub first : (y : R.X) → R.In y → R.Equivalent x y → ¬ R.Before y x
+
+-- y is the first equivalent of x
+pub record IsFirstOf (R : Region) (x y : R.X) : Type 0 where
+  pub listed : IsListed R y
+  pub equivalent : R.Equivalent y x
+
+-- the numbers are, for each element by its place, the place of its first equivalent
+pub record AreFirstPlaces (R : Region) (firsts : List ℕ) : Type 0 where
+  pub len : length firsts ≡ R.count
+  pub first : (x : R.X) → R.In x → (y : R.X) × IsFirstOf R x y × (slice_index firsts (R.place x) ≡ R.place y)
 
 -- lines of type L: the element of each, and what makes it right
 pub record Lines (R : Region) : Type 1 where

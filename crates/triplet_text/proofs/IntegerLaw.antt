@@ -2,9 +2,10 @@
 use Rattle.std.specs.Prelude.{if◌then◌else◌}
 use Rattle.std.specs.Option.{option_map}
 use Rattle.std.proofs.Common.{◌≡◌, ◌≤◌, ◌<◌, ◌⊎◌, ℕ, ◌+◌, ◌*◌, ◌^◌, Bool, true, false, eqb, leb, List, [], ◌∷◌, length, take, drop, get_or, ◌-◌, to_z, of_z, w64, Option, Some, None, inl, inr, ⊎_elim, refl, sym, ap, subst, ◌∙◌, arith}
-use Rattle.std.specs.Prelude.{ℤ, pos, neg_ℤ, ◌-ℤ◌}
+use Rattle.std.specs.Prelude.{ℤ, pos, neg_ℤ, ◌-ℤ◌, unsigned_abs}
 use Rattle.std.proofs.lemmas.List.{take_rest}
 use Rattle.std.proofs.lemmas.Int.{ints}
+use Rattle.std.proofs.lemmas.Str.Parse.{digits_value_short}
 use Rattle.std.proofs.lemmas.Bool.{cases_lt, le-leb}
 use Rattle.std.proofs.lemmas.Bool.Decides.{nat_tests}
 use borrow.Author.Tests.{eqb-true, leb-true}
@@ -14,13 +15,16 @@ use Rattle.triplet_text.specs.Digits.{with_digits}
 use Rattle.triplet_text.specs.Grammar.{value_of}
 use Rattle.triplet_text.specs.Integers.{IsNatural, IsInteger, bare, plus, minus}
 use Rattle.triplet_text.proofs.Options.{map_some, if_some}
-use Rattle.triplet_text.proofs.Values.{digits_to, digits_from}
+use Rattle.triplet_text.proofs.Values.{own, digits_to, digits_from}
 use Rattle.triplet_text.proofs.CoordinateLaw.{number_to, number_from}
 
 -- ---- without a sign
 
 pub one_natural : (most : ℕ) (text : List ℕ) (n m : ℕ) → IsNatural most text n → IsNatural most text m → n ≡ m
 one_natural most text n m h k = h.value ∙ sym k.value
+
+pub natural_small : (most : ℕ) (text : List ℕ) (n : ℕ) → IsNatural most text n → n < 10 ^ most
+natural_small most text n h = subst (λ (m : ℕ). m < 10 ^ most) (sym h.value) (digits_value_short own text most h.digits.digits h.short)
 
 abbrev pub NaturalOrNone : ℕ → List ℕ → Type 0
 NaturalOrNone most text = ((n : ℕ) × IsNatural most text n) ⊎ ((n : ℕ) → IsNatural most text n → ⊥)
@@ -96,6 +100,15 @@ integer_from most (byte ∷ text) z e = integer_by (eqb byte minus_sign) (eqb by
 
 pub one_integer : (most : ℕ) (text : List ℕ) (y z : ℤ) → IsInteger most text y → IsInteger most text z → y ≡ z
 one_integer most text y z p q = let same : Some y ≡ Some z = sym (integer_to p) ∙ integer_to q in cc
+
+-- a whole number of so many digits
+pub integer_small : (most : ℕ) {text : List ℕ} {z : ℤ} → IsInteger most text z → unsigned_abs z < 10 ^ most
+integer_small most (bare {text = text} {n = n} h) = natural_small most text n h
+integer_small most (plus {text = text} {n = n} h) = natural_small most text n h
+integer_small most (minus {text = text} {n = n} h) = negated n (natural_small most text n h)
+  where
+    negated : (n : ℕ) → n < 10 ^ most → unsigned_abs (neg_ℤ (pos n)) < 10 ^ most
+    negated n l = omega (arith, ints, l)
 
 abbrev pub IntegerOrNone : ℕ → List ℕ → Type 0
 IntegerOrNone most text = ((z : ℤ) × IsInteger most text z) ⊎ ((z : ℤ) → IsInteger most text z → ⊥)

@@ -1,6 +1,6 @@
 use Rattle.std.proofs.Common.{Err, refl, ap, ◌∙◌, ◌++◌, ◌∷◌, []}
 use Rattle.std.proofs.lemmas.Result.{err_from_is_err_and}
-use Rattle.table_print.proofs.WalkPages.{IsPrinting, printing_begun, line_put, room_made, printing_stopped, all_put}
+use Rattle.page_print.proofs.WalkPages.{IsPrinting, printing_begun, line_put, room_made, printing_stopped, all_put}
 use Rattle.table_print.proofs.ClassPages.{class_listing, same_list}
 use Rattle.table_print.proofs.classes.put_classes.Given.{Over}
 use Rattle.table_print.proofs.classes.put_classes.Goals.{After-push_class}

@@ -2,7 +2,7 @@ use Rattle.std.proofs.Common.{◌-◌, ◌+◌, ◌≤◌, length}
 use Rattle.page_print.specs.declared.page.TheConstants.{PAGE_ROOM}
 use Rattle.reflections.specs.Boxes.{places}
 use Rattle.table_print.specs.declared.classes.TheConstants.{CLASS_LINE}
-use Rattle.table_print.proofs.WalkPages.{IsPrinting}
+use Rattle.page_print.proofs.WalkPages.{IsPrinting}
 use Rattle.table_print.proofs.ClassPages.{class_listing}
 use Rattle.table_print.proofs.classes.put_classes.Given as goal
 

@@ -2,7 +2,7 @@ use Rattle.std.proofs.Common.{Err, ap, ◌∙◌, ◌++◌, ◌∷◌, []}
 use Rattle.std.proofs.lemmas.Result.{err_from_is_err_and}
 use Rattle.page_print.proofs.Gathering.{printed, prints_stopped}
 use Rattle.table_print.specs.Grids.{IsGridText}
-use Rattle.table_print.proofs.WalkPages.{IsPrinting, line_put, room_made, printing_stopped, all_put}
+use Rattle.page_print.proofs.WalkPages.{IsPrinting, line_put, room_made, printing_stopped, all_put}
 use Rattle.table_print.proofs.GridPages.{grid_listing, same_list}
 use Rattle.table_print.proofs.grids.print_orbits.Given.{Over}
 use Rattle.table_print.proofs.grids.print_orbits.Goals.{After-push_orbit}

@@ -2,7 +2,7 @@ use Rattle.std.proofs.Common.{◌-◌, ◌+◌, ◌≤◌, length}
 use Rattle.page_print.specs.declared.page.TheConstants.{PAGE_ROOM}
 use Rattle.grid_tags.specs.Grids.{points}
 use Rattle.table_print.specs.declared.grids.TheConstants.{ORBIT_LINE}
-use Rattle.table_print.proofs.WalkPages.{IsPrinting}
+use Rattle.page_print.proofs.WalkPages.{IsPrinting}
 use Rattle.table_print.proofs.GridPages.{grid_listing}
 use Rattle.table_print.proofs.grids.print_orbits.Given as goal
 

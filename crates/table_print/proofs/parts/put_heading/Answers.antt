@@ -1,7 +1,7 @@
 use Rattle.std.proofs.Common.{Err, ap, ◌∙◌, refl}
 use Rattle.std.proofs.lemmas.Result.{err_from_is_err_and}
-use Rattle.table_print.specs.Parts.{Is}
-use Rattle.table_print.proofs.PartTexts.{room_stopped}
+use Rattle.page_print.specs.Parts.{Is}
+use Rattle.page_print.proofs.PartTexts.{room_stopped}
 use Rattle.table_print.proofs.parts.put_heading.Goals as goal
 
 pub returns-in_err-make_room-clause-gathers : goal.returns-in_err-make_room-clause-gathers

@@ -2,7 +2,7 @@ use Rattle.std.proofs.Common.{Err, Ok, ap, ◌∙◌, length}
 use Rattle.std.proofs.lemmas.Result.{err_from_is_err_and}
 use Rattle.page_print.proofs.Gathering.{printed, prints_stopped}
 use Rattle.table_print.specs.Sample.{sample_heading, AreCountedLines, IsSampleText}
-use Rattle.table_print.proofs.PartTexts.{after_heading}
+use Rattle.page_print.proofs.PartTexts.{after_heading}
 use Rattle.table_print.proofs.sample.print_sample.Goals as goal
 
 pub returns-in_err-put_counted : goal.returns-in_err-put_counted

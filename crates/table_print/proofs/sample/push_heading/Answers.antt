@@ -1,5 +1,5 @@
 use Rattle.std.proofs.Common.{◌∙◌, ap, codes}
-use Rattle.table_print.specs.Parts.{counted}
+use Rattle.page_print.specs.Parts.{counted}
 use Rattle.table_print.proofs.SampleTexts.{heading_pushed}
 use Rattle.table_print.proofs.sample.push_heading.Goals as goal
 

@@ -1,9 +1,9 @@
 use Rattle.std.proofs.Common.{Err, ap, ◌∙◌, codes}
 use Rattle.std.proofs.lemmas.Result.{err_from_is_err_and}
 use Rattle.table_print.specs.Classes.{IsBoxText}
-use Rattle.table_print.specs.Parts.{Is}
+use Rattle.page_print.specs.Parts.{Is}
 use Rattle.table_print.proofs.ClassTexts.{some_box_text}
-use Rattle.table_print.proofs.PartTexts.{two_gathered, first_stopped}
+use Rattle.page_print.proofs.PartTexts.{two_gathered, first_stopped}
 use Rattle.table_print.proofs.table.put_class_part.Goals as goal
 
 pub returns-in_err-put_heading-clause-gathers : goal.returns-in_err-put_heading-clause-gathers

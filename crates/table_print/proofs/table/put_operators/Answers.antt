@@ -2,8 +2,8 @@ use Rattle.std.proofs.Common.{Err, ap, ◌∙◌, codes, length, refl}
 use Rattle.std.proofs.lemmas.Result.{err_from_is_err_and}
 use Rattle.page_print.proofs.LineTexts.{some_lines}
 use Rattle.table_print.specs.Operators.{IsOperatorLine, AreOperatorLines}
-use Rattle.table_print.specs.Parts.{Is, counted}
-use Rattle.table_print.proofs.PartTexts.{two_gathered, first_stopped}
+use Rattle.page_print.specs.Parts.{Is, counted}
+use Rattle.page_print.proofs.PartTexts.{two_gathered, first_stopped}
 use Rattle.table_print.proofs.table.put_operators.Goals as goal
 
 pub returns-in_err-put_heading : goal.returns-in_err-put_heading

@@ -1,8 +1,8 @@
 use Rattle.std.proofs.Common.{Err, ap, ◌∙◌, codes, length, refl}
 use Rattle.std.proofs.lemmas.Result.{err_from_is_err_and}
 use Rattle.table_print.specs.Rows.{IsRowsText}
-use Rattle.table_print.specs.Parts.{Is, counted}
-use Rattle.table_print.proofs.PartTexts.{two_gathered, first_stopped}
+use Rattle.page_print.specs.Parts.{Is, counted}
+use Rattle.page_print.proofs.PartTexts.{two_gathered, first_stopped}
 use Rattle.table_print.proofs.table.put_row_part.Goals as goal
 
 pub returns-in_err-put_heading : goal.returns-in_err-put_heading

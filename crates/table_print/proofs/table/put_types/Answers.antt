@@ -1,8 +1,8 @@
 use Rattle.std.proofs.Common.{Err, ap, ◌∙◌, codes}
 use Rattle.std.proofs.lemmas.Result.{err_from_is_err_and}
 use Rattle.table_print.specs.Types.{AreTypeLines}
-use Rattle.table_print.specs.Parts.{Is}
-use Rattle.table_print.proofs.PartTexts.{two_gathered, first_stopped}
+use Rattle.page_print.specs.Parts.{Is}
+use Rattle.page_print.proofs.PartTexts.{two_gathered, first_stopped}
 use Rattle.table_print.proofs.TablePages.{some_type_lines}
 use Rattle.table_print.proofs.table.put_types.Goals as goal
 

@@ -1,0 +1,136 @@
+-- What data lines write: values of at most nine digits, and as many of them as there are grid points in a cell, or not.
+use Rattle.std.proofs.Common.{◌≡◌, ℕ, ◌+◌, ◌^◌, ◌<◌, ◌≤◌, ℤ, unsigned_abs, w32, w64, FitsSigned, to_z, of_z, List, [], ◌∷◌, length, map, ◌==◌, ◌⊎◌, inl, inr, ⊎_elim, refl, sym, ap, subst, ◌∙◌, arith}
+use Rattle.std.proofs.lemmas.Bool.{cases_eq}
+use Rattle.std.proofs.lemmas.Int.{ints, to_z-of_z}
+use Rattle.std.proofs.lemmas.List.{length-map}
+use Rattle.std.proofs.lemmas.List.Splits.{length-slice_split}
+use Rattle.std.proofs.lemmas.List.Sums.{count_by-le-length}
+use Rattle.triplet_text.specs.Integers.{IsInteger}
+use Rattle.triplet_text.proofs.IntegerLaw.{integer_small, one_integer, integer_or_none}
+use Rattle.triplet_text.specs.Bytes.{line_feed}
+use Rattle.triplet_text.specs.Lines.{lines_of, IsGoodFor, end, skipped, read}
+use Rattle.data_lines.specs.Fields.{fields_of}
+use Rattle.data_lines.specs.DataLines.{IsDataLine, IsBadLine, IsFirstSuch, AreWritten}
+use Rattle.data_lines.proofs.DataLaws.{seen_values, same_values, no_bad_line, written_or_bad, WrittenOrNot}
+use Rattle.grid_tags.specs.Grids.{Grid, points}
+use Rattle.map_sym.specs.declared.reading.Value.{Value}
+use Rattle.map_sym.specs.declared.reading.TheConstants.{VALUE_DIGITS}
+use Rattle.map_sym.specs.SummedMaps.{GridValues}
+use Rattle.map_sym.specs.ValueLines.{IsValueLine, AreValuesOf, IsFirstBad, IsOtherCount, number_of}
+
+-- ---- a value that was read
+
+module _ (field : List ℕ) (n : ℤ) (is : IsInteger VALUE_DIGITS field n) where
+  small : unsigned_abs n < 10 ^ 9
+  small = integer_small VALUE_DIGITS is
+
+  wide : to_z w64 (of_z w64 n) ≡ n
+  wide = let l = small in omega (arith, ints, l)
+
+  narrow : FitsSigned w32 n
+  narrow = let l = small in omega (arith, ints, l)
+
+  pub value_fits : FitsSigned w32 (to_z w64 (of_z w64 n))
+  value_fits = subst (FitsSigned w32) (sym wide) narrow
+
+  pub value_line : (line : List ℕ) → fields_of line ≡ field ∷ [] → IsValueLine line (to_z w32 (of_z w32 (to_z w64 (of_z w64 n))))
+  value_line line one = record {
+    field = field;
+    is_field = one;
+    is_value = subst (IsInteger VALUE_DIGITS field) (sym (ap (λ z. to_z w32 (of_z w32 z)) wide ∙ to_z-of_z w32 n narrow)) is;
+  }
+
+-- ---- values as they are read, and the numbers that contracts see
+
+abbrev pub IsReadLine : List ℕ → Value → Type 0
+IsReadLine line value = IsValueLine line (number_of value)
+
+good_number : (line : List ℕ) → IsGoodFor (IsDataLine IsReadLine) line → IsGoodFor (IsDataLine IsValueLine) line
+good_number line (inl s) = inl s
+good_number line (inr w) = inr (number_of w.0, record { kept = w.1.kept; written = w.1.written })
+
+pub bad_number : (first : ℕ) (lines : List (List ℕ)) (k : ℕ) → IsFirstSuch IsReadLine (IsBadLine IsReadLine) first lines k → IsFirstBad first lines k
+bad_number first lines k f = record {
+  before = f.before;
+  line = f.line;
+  after = f.after;
+  cut = f.cut;
+  good = λ i d l. good_number _ (f.good i d l);
+  number = f.number;
+  bad = record { kept = f.bad.kept; unwritten = λ z w. f.bad.unwritten (record { number = z }) w };
+}
+
+pub numbers_written : (lines : List (List ℕ)) (list : List Value) → AreWritten IsReadLine lines list → AreWritten IsValueLine lines (map number_of list)
+numbers_written lines list w = seen_values IsValueLine number_of w
+
+-- ---- how many there are
+
+few_values : {lines : List (List ℕ)} {list : List Value} → AreWritten IsReadLine lines list → length list ≤ length lines
+few_values end = omega arith
+few_values (skipped s rest) = let l = few_values rest in omega (arith, l)
+few_values (read d rest) = let l = few_values rest in omega (arith, l)
+
+-- no more than bytes, and one
+pub few_read : (bytes : List ℕ) (list : List Value) → AreWritten IsReadLine (lines_of bytes) list → length list ≤ length bytes + 1
+few_read bytes list w =
+    let l = few_values w in
+    let n = length-slice_split (λ byte. byte == line_feed) bytes in
+    let c = count_by-le-length (λ byte. byte == line_feed) bytes in
+    omega (arith, l, n, c)
+
+pub other_count : (lines : List (List ℕ)) (size : Grid) (list : List Value) (n m : ℕ) → AreWritten IsReadLine lines list → n ≡ length list → m ≡ points size → (n ≡ m → ⊥) → IsOtherCount lines size n
+other_count lines size list n m w e f other = record {
+  values = map number_of list;
+  written = numbers_written lines list w;
+  count = e ∙ sym (length-map list number_of);
+  other = λ same. other (same ∙ sym f);
+}
+
+-- ---- what lines write
+
+pub one_value : (line : List ℕ) (y z : ℤ) → IsValueLine line y → IsValueLine line z → y ≡ z
+one_value line y z p q =
+    let same : p.field ≡ q.field = let e : p.field ∷ [] ≡ q.field ∷ [] = sym p.is_field ∙ q.is_field in cc in
+    one_integer VALUE_DIGITS q.field y z (subst (λ f. IsInteger VALUE_DIGITS f y) same p.is_value) q.is_value
+
+value_or_none : (line : List ℕ) → WrittenOrNot IsValueLine line
+value_or_none line = by (fields_of line) refl
+  where
+    by : (fields : List (List ℕ)) → fields_of line ≡ fields → WrittenOrNot IsValueLine line
+    by [] e = inr (λ z w. let same : [] ≡ w.field ∷ [] = sym e ∙ w.is_field in absurd cc)
+    by (field ∷ []) e = ⊎_elim
+        (λ is. inl (is.0, record { field = field; is_field = e; is_value = is.1 }))
+        (λ none. inr (λ z w. let same : field ≡ w.field = let f : field ∷ [] ≡ w.field ∷ [] = sym e ∙ w.is_field in cc in none z (subst (λ f. IsInteger VALUE_DIGITS f z) (sym same) w.is_value)))
+        (integer_or_none VALUE_DIGITS field)
+    by (field ∷ next ∷ fields) e = inr (λ z w. let same : field ∷ next ∷ fields ≡ w.field ∷ [] = sym e ∙ w.is_field in absurd cc)
+
+pub one_list : (lines : List (List ℕ)) (a b : List ℤ) → AreWritten IsValueLine lines a → AreWritten IsValueLine lines b → a ≡ b
+one_list lines a b p q = same_values IsValueLine one_value lines a b p q
+
+module _ (lines : List (List ℕ)) (grid : Grid) where
+  pub values_or_not : (first : ℕ) → ((given : GridValues) × AreValuesOf lines grid given) ⊎ ((k : ℕ) × IsFirstBad first lines k) ⊎ ((n : ℕ) × IsOtherCount lines grid n)
+  values_or_not first = ⊎_elim
+      (λ w. ⊎_elim
+      (λ e. inl (record { size = grid; values = w.0 }, record { size = refl; all = e; written = w.1 }))
+      (λ e. inr (inr (length w.0, record { values = w.0; written = w.1; count = refl; other = e })))
+      (cases_eq (length w.0) (points grid)))
+      (λ b. inr (inl b))
+      (written_or_bad IsValueLine value_or_none first lines)
+
+  pub values_or_bad : (first : ℕ) (given : GridValues) (k : ℕ) → AreValuesOf lines grid given → IsFirstBad first lines k → ⊥
+  values_or_bad first given k v b = no_bad_line IsValueLine first lines given.values k v.written b
+
+  pub bad_or_count : (first k n : ℕ) → IsFirstBad first lines k → IsOtherCount lines grid n → ⊥
+  bad_or_count first k n b o = no_bad_line IsValueLine first lines o.values k o.written b
+
+  pub values_or_count : (given : GridValues) (n : ℕ) → AreValuesOf lines grid given → IsOtherCount lines grid n → ⊥
+  values_or_count given n v o = o.other (o.count ∙ ap length (one_list lines o.values given.values o.written v.written) ∙ v.all ∙ ap points v.size)
+
+  pub one_grid_values : (a b : GridValues) → AreValuesOf lines grid a → AreValuesOf lines grid b → a ≡ b
+  one_grid_values a b p q =
+      let size = p.size ∙ sym q.size in
+      let values = one_list lines a.values b.values p.written q.written in
+      λ h. record { size = size h; values = values h }
+
+  pub one_count : (m n : ℕ) → IsOtherCount lines grid m → IsOtherCount lines grid n → m ≡ n
+  one_count m n p q = p.count ∙ ap length (one_list lines p.values q.values p.written q.written) ∙ sym q.count

@@ -1,0 +1,4 @@
+pub mod SummedMaps
+pub mod Steps
+pub mod MapTexts
+pub mod ValueLines
