@@ -1,0 +1,24 @@
+//! Measured reflections merged by classes of symmetry-equivalent indices: how many lines a class has, the sum of their values,
+//! whether the class is systematically absent, and whether a value was observed all the same. International Tables B; the order
+//! of the classes is this project's own.
+//!
+//! Proved: `merge` gives the merged list: each class with a line in it once, by its greatest index, in descending order.
+//! `class_key` gives that index. Every list has one merged list (`some_merged_list`, `one_merged_list`), in which each line is
+//! counted in one class (`one_class_of_each_line`), and no other is (`counts_of_all_lines`).
+#![tactic(auto)]
+
+mod class_keys;
+mod entries;
+mod laws;
+mod measured;
+mod merged;
+mod merging;
+
+pub use class_keys::class_key;
+pub use laws::{
+    counts_of_all_lines, one_class_key, one_class_of_each_line, one_merged_list, some_class_key,
+    some_merged_list,
+};
+pub use measured::{Measured, MeasuredList};
+pub use merged::{Merged, MergedLine};
+pub use merging::merge;
