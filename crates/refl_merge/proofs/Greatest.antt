@@ -71,9 +71,6 @@ greater_row a b r la lb e =
       not_second = λ p. g.not_second (subst (λ v. slice_cmp int_cmp v b ≡ Less) (three_numbers r lr) (subst (λ v. slice_cmp int_cmp (numbers_of (row_of r)) v ≡ Less) (three_numbers b lb) p));
     }
 
-pub greater_length : (a b r : List ℤ) → length a ≡ 3 → length b ≡ 3 → r ≡ ord_max (slice_cmp int_cmp) a b → length r ≡ 3
-greater_length a b r la lb e = ⊎_elim (λ q. ap length q ∙ la) (λ q. ap length q ∙ lb) (max_is a b r e).one
-
 pub image_with_opposite : (e o r : Row) → o ≡ neg_row e → IsGreaterRow e o r → IsGreatestImage Friedel e r
 image_with_opposite e o r p g = record {
   same = ⊎_elim (λ q. inl q) (λ q. inr (q ∙ p)) g.one;

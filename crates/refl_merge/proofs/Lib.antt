@@ -1,2 +1,6 @@
 mod Order
 mod Greatest
+mod Classes
+mod Totals
+mod Gathering
+mod MergedLists

@@ -4,6 +4,7 @@ use Rattle.std.specs.List.{All, AllPairs, Contains, filter}
 use Rattle.std.specs.Ordering.{on, flip_args, int_cmp, eq_by_cmp}
 use Rattle.std.specs.Cmp.Lexicographic.{slice_cmp}
 use Rattle.std.specs.declared.cmp.Ordering.{Ordering}
+use Rattle.std.specs.declared.cmp.Ordering.TheVariants.{Less}
 use Rattle.lattice_algebra.specs.Operator.{Operator}
 use Rattle.phase_rules.specs.declared.pairs.Pairs.{Pairs}
 use Rattle.phase_rules.specs.Rows.{Row, row_of}
@@ -47,6 +48,14 @@ pub record IsKeyRun (entries : List Keyed) (start end : ℕ) : Type 0 where
   pub same : (k : ℕ) (e f : Keyed) → start ≤ k → k < end → slice_get entries start ≡ Some e → slice_get entries k ≡ Some f → f.key ≡ e.key
   pub other : (e f : Keyed) → slice_get entries start ≡ Some e → slice_get entries end ≡ Some f → f.key ≢ e.key
 
+-- a is greater than b
+abbrev pub IsGreaterKey : List ℤ → List ℤ → Type 0
+IsGreaterKey a b = slice_cmp int_cmp b a ≡ Less
+
+-- each entry before place i has a greater key than each from there on
+abbrev pub AreBehind : List Keyed → ℕ → Type 0
+AreBehind entries i = (k j : ℕ) (e f : Keyed) → k < i → i ≤ j → slice_get entries k ≡ Some e → slice_get entries j ≡ Some f → IsGreaterKey e.key f.key
+
 -- the merged line of entries with one key
 pub record IsLineOfRun (members : List Operator) (run : List Keyed) (line : MergedLine) : Type 0 where
   pub key : (e : Keyed) → slice_get run 0 ≡ Some e → line.key ≡ e.key
@@ -64,4 +73,4 @@ pub record IsGathered (members : List Operator) (entries : List Keyed) (line : M
 pub record AreGathered (members : List Operator) (entries : List Keyed) (merged : List MergedLine) : Type 0 where
   pub each : All (IsGathered members entries) merged
   pub all : (e : Keyed) → Contains entries e → (line : MergedLine) × Contains merged line × (line.key ≡ e.key)
-  pub descending : AllPairs (λ (a b : MergedLine). IsAbove (row_of a.key) (row_of b.key)) merged
+  pub descending : AllPairs (λ (a b : MergedLine). IsGreaterKey a.key b.key) merged

@@ -1,4 +1,4 @@
-ghost use Rattle.std.specs.Prelude.{◌≡◌, ◌*◌, length, negsuc};
+ghost use Rattle.std.specs.Prelude.{◌≡◌, ◌*◌, negsuc};
 ghost use Rattle.lattice_algebra.specs.Matrix.{identity, scaled};
 ghost use Rattle.lattice_algebra.specs.Operator.{AreWithin};
 ghost use Rattle.group_closure.specs.GroupList.{IsGroup};
@@ -16,8 +16,7 @@ use phase_rules::{Index, Pairs};
 
 /// The greatest index that is equivalent to the index. It can be beyond the range of an `Index`.
 pub fn class_key(group: &Group, index: &Index, pairs: Pairs) -> [i32; 3]
-    ensures three { length result ≡ 3 }
-    ensures key { IsClassKey pairs group.now index.now (row_of result) }
+    ensures { IsClassKey pairs group.now index.now (row_of result) }
 {
     // Every group says that it is one where its length is asked.
     let _ = group.len();
@@ -29,8 +28,7 @@ pub fn class_key(group: &Group, index: &Index, pairs: Pairs) -> [i32; 3]
 
 /// The same for any group. A rotation part is asked once for its run.
 fn key_by_runs(group: &Group, index: &Index, pairs: Pairs) -> [i32; 3]
-    ensures three { length result ≡ 3 }
-    ensures key { IsClassKey pairs group.now index.now (row_of result) }
+    ensures { IsClassKey pairs group.now index.now (row_of result) }
 {
     let order = group.len() as u8;
     let mut key = greatest_image(index, &group.op(0), pairs);
@@ -49,8 +47,7 @@ fn key_by_runs(group: &Group, index: &Index, pairs: Pairs) -> [i32; 3]
 fn key_with_opposites(group: &Group, index: &Index, inversion: u8) -> [i32; 3]
     requires group { IsGroup group.now }
     requires inversion { IsFirstWith group.now (scaled (negsuc 0) identity) inversion }
-    ensures three { length result ≡ 3 }
-    ensures key { (pairs : Pairs) → IsClassKey pairs group.now index.now (row_of result) }
+    ensures { (pairs : Pairs) → IsClassKey pairs group.now index.now (row_of result) }
 {
     let mut key = greatest_image(index, &group.op(0), Pairs::Friedel);
     let mut i = group.run_end(0);
@@ -65,8 +62,7 @@ fn key_with_opposites(group: &Group, index: &Index, inversion: u8) -> [i32; 3]
 
 /// The image h W of the index, or with Friedel's law the greater of it and -h W.
 fn greatest_image(index: &Index, op: &Op, pairs: Pairs) -> [i32; 3]
-    ensures three { length result ≡ 3 }
-    ensures greatest { IsGreatestImage pairs (index.now ·ʳ op.now.w) (row_of result) }
+    ensures { IsGreatestImage pairs (index.now ·ʳ op.now.w) (row_of result) }
 {
     // An index is known to be in range where one of its numbers is read.
     let _h = index.h;
@@ -79,8 +75,7 @@ fn greatest_image(index: &Index, op: &Op, pairs: Pairs) -> [i32; 3]
 
 fn opposite(row: &[i32; 3]) -> [i32; 3]
     requires { let r = row_of row.now in AreWithin (6 * MAX_INDEX) r.h r.k r.l }
-    ensures three { length result ≡ 3 }
-    ensures value { row_of result ≡ neg_row (row_of row.now) }
+    ensures { row_of result ≡ neg_row (row_of row.now) }
 {
     let [h, k, l] = *row;
     [-h, -k, -l]

@@ -8,5 +8,5 @@ opposite_run-requires c = some_member c.args.group.now c.len.ensures.group
 pub key_with_opposites-requires-clause-inversion : goal.key_with_opposites-requires-clause-inversion
 key_with_opposites-requires-clause-inversion c = c.in-Some.ensures.first identity_operator c.len.ensures.group.first
 
-pub returns-in-Some-clause-key : goal.returns-in-Some-clause-key
-returns-in-Some-clause-key c = c.key_with_opposites.ensures.key c.args.pairs
+pub returns-in-Some : goal.returns-in-Some
+returns-in-Some c = c.key_with_opposites.ensures c.args.pairs
