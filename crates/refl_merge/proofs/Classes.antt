@@ -1,5 +1,5 @@
 -- Classes and their keys: each class has one key, and equivalence is decided by a test.
-use Rattle.std.proofs.Common.{◌≡◌, ◌⊎◌, ◌<◌, ◌+◌, Bool, List, [], ◌∷◌, length, get_or, inl, inr, ⊎_elim, ap, sym, ◌∙◌, subst, refl, arith, Contains, AllPairs, Decides}
+use Rattle.std.proofs.Common.{◌≡◌, List, [], ◌∷◌, get_or, ⊎_elim, sym, refl, Contains, AllPairs, Decides}
 use Rattle.std.specs.List.{list_any}
 use Rattle.std.proofs.lemmas.Bool.Decides.{Decides-or, Decides-by_or, Decides-like}
 use Rattle.std.proofs.lemmas.List.Elements.{Contains-get_or, at_read}
@@ -11,7 +11,7 @@ use Rattle.group_closure.specs.GroupList.{IsGroup}
 use Rattle.phase_rules.specs.declared.pairs.Pairs.{Pairs}
 use Rattle.phase_rules.specs.declared.pairs.Pairs.TheVariants.{Friedel, Apart}
 use Rattle.phase_rules.specs.Rows.{Row, ◌·ʳ◌, neg_row, row_eq}
-use Rattle.phase_rules.specs.Equivalent.{IsSameReflection, AreEquivalent, IsClass}
+use Rattle.phase_rules.specs.Equivalent.{IsSameReflection, AreEquivalent}
 use Rattle.phase_rules.proofs.Rows.{row_eq-is}
 use Rattle.phase_rules.proofs.Classes.{equivalent_itself, equivalent_back, equivalent_on, some_class}
 use Rattle.refl_merge.specs.Keys.{IsAbove, IsClassKey}

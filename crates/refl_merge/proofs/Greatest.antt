@@ -1,5 +1,5 @@
 -- The greatest row of a class, member by member.
-use Rattle.std.proofs.Common.{◌≡◌, ◌≢◌, ℕ, ◌+◌, ◌*◌, ◌<◌, ◌≤◌, ◌⊎◌, ◌↔◌, ◌++◌, List, [], ◌∷◌, length, take, get_or, slice_get, Some, inl, inr, ⊎_elim, ap, sym, ◌∙◌, subst, refl, arith, ℤ, pos, negsuc, ◌-ℤ◌, neg_ℤ, unsigned_abs, w32, Contains, length-take, Less}
+use Rattle.std.proofs.Common.{◌≡◌, ℕ, ◌*◌, ◌<◌, ◌≤◌, ◌⊎◌, List, [], ◌∷◌, length, take, get_or, slice_get, Some, inl, inr, ⊎_elim, ap, sym, ◌∙◌, subst, arith, ℤ, pos, negsuc, ◌-ℤ◌, neg_ℤ, unsigned_abs, w32, Contains, length-take, Less}
 use Rattle.std.specs.Ordering.{int_cmp, ord_max}
 use Rattle.std.specs.Cmp.Lexicographic.{slice_cmp}
 use Rattle.std.proofs.lemmas.Bool.{cases_lt}
@@ -13,18 +13,18 @@ use Rattle.lattice_algebra.proofs.Numbers.{abs_neg}
 use Rattle.lattice_algebra.proofs.Ring.{var, ◌⊕◌, ◌⊗◌}
 use Rattle.exact_ops.specs.declared.TheConstants.{UNIT}
 use Rattle.group_closure.specs.GroupList.{IsGroup}
-use Rattle.group_closure.proofs.Places.{contains_at, EndsRun, same_matrix}
+use Rattle.group_closure.proofs.Places.{EndsRun, same_matrix}
 use Rattle.phase_rules.specs.declared.TheConstants.{MAX_INDEX}
 use Rattle.phase_rules.specs.declared.pairs.Pairs.{Pairs}
 use Rattle.phase_rules.specs.declared.pairs.Pairs.TheVariants.{Friedel, Apart}
 use Rattle.phase_rules.specs.Rows.{Row, row_of, ◌·ʳ◌, neg_row}
 use Rattle.phase_rules.specs.Equivalent.{IsSameReflection, AreEquivalent}
 use Rattle.phase_rules.specs.Halves.{HaveOpposites}
-use Rattle.phase_rules.proofs.Rows.{numbers, neg_row-neg_row}
+use Rattle.phase_rules.proofs.Rows.{neg_row-neg_row}
 use Rattle.phase_rules.proofs.Opposites.{opposite_row, opposite_member, opposite_w, front_or_behind, front_member}
 use Rattle.refl_merge.specs.Keys.{numbers_of, IsAbove, IsClassKey}
 use Rattle.refl_merge.specs.Steps.{IsGreatestImage}
-use Rattle.refl_merge.proofs.Order.{three_numbers, IsGreater, max_is, above_on, which_above, not_above_itself}
+use Rattle.refl_merge.proofs.Order.{three_numbers, max_is, above_on, which_above, not_above_itself}
 
 -- ---- one image
 

@@ -1,6 +1,6 @@
 -- Every list of measured lines has one merged list, and each line is counted in it once.
-use Rattle.std.proofs.Common.{◌≡◌, ◌≢◌, ◌⊎◌, ◌<◌, ◌+◌, ◌*◌, ℕ, ℤ, pos, Bool, true, false, cond, List, [], ◌∷◌, length, map, get_or, inl, inr, ⊎_elim, ap, sym, ◌∙◌, subst, refl, arith, ◌&&◌, int_eq, All, AllPairs, Contains, Decides, filter, sum_by, count_by}
-use Rattle.std.proofs.lemmas.Bool.{cases_Bool, cases_lt, false≢true}
+use Rattle.std.proofs.Common.{◌≡◌, ◌⊎◌, ◌<◌, ◌+◌, ◌*◌, ℕ, pos, Bool, true, false, cond, List, [], ◌∷◌, length, map, get_or, inl, inr, ⊎_elim, ap, sym, ◌∙◌, subst, refl, arith, ◌&&◌, int_eq, AllPairs, Contains, Decides, sum_by, count_by}
+use Rattle.std.proofs.lemmas.Bool.{false≢true}
 use Rattle.std.proofs.lemmas.Bool.Decides.{same_from_decides, Decides-and, Decides-int_eq}
 use Rattle.std.proofs.lemmas.List.{get_or-map, length-map}
 use Rattle.std.proofs.lemmas.List.Elements.{All-contains, All-map, Contains-get_or}
@@ -23,7 +23,7 @@ use Rattle.phase_rules.proofs.SomeMark.{some_mark}
 use Rattle.refl_merge.specs.declared.measured.Measured.{Measured}
 use Rattle.refl_merge.specs.declared.merged.MergedLine.{MergedLine}
 use Rattle.refl_merge.specs.Keys.{numbers_of, IsAbove, IsClassKey}
-use Rattle.refl_merge.specs.Merged.{are_equivalent, lines_of_class, sum_of_values, HasValue, IsMergeOf, IsMergedLine, IsMergedList, IsOnlyLineOf}
+use Rattle.refl_merge.specs.Merged.{are_equivalent, lines_of_class, sum_of_values, HasValue, IsMergedLine, IsMergedList, IsOnlyLineOf}
 use Rattle.refl_merge.proofs.Order.{above_on, which_above, not_both_above, not_above_itself, three_numbers}
 use Rattle.refl_merge.proofs.Classes.{are_equivalent-is, one_key, key_of_equivalent, key_of_key, some_key}
 
@@ -218,8 +218,7 @@ module _ (pairs : Pairs) (members : List Operator) (group : IsGroup members) (li
   pub some_list : (merged : List MergedLine) × IsMergedList pairs members lines merged
   unfolding line_with key_in
   some_list =
-      let r = sorting.sorted IsAbove above_on which_above (map key_in lines) in
-      (
+      let r = sorting.sorted IsAbove above_on which_above (map key_in lines) in (
         map line_with r.0,
         record {
           each = All-map (IsMergedLine pairs members lines) line_with r.0 (λ i d l.

@@ -1,9 +1,11 @@
 -- Counts and sums of values, whatever the order of the lines.
-use Rattle.std.proofs.Common.{◌≡◌, ◌↔◌, ◌+◌, ◌≤◌, ◌*◌, ◌^◌, ℕ, zero, suc, ℤ, pos, negsuc, ◌+ℤ◌, ◌-ℤ◌, unsigned_abs, Bool, true, false, cond, List, [], ◌∷◌, ◌++◌, length, map, take, get_or, ap, ap₂, sym, ◌∙◌, subst, refl, arith, Contains, filter, sum_by, count_by, IsPermutation}
-use Rattle.std.proofs.lemmas.Int.{ints}
+use Rattle.std.proofs.Common.{◌≡◌, ◌↔◌, ◌+◌, ◌<◌, ◌≤◌, ◌*◌, ◌^◌, ℕ, suc, ℤ, pos, negsuc, ◌+ℤ◌, ◌-ℤ◌, unsigned_abs, Bool, true, false, cond, List, [], ◌∷◌, ◌++◌, length, ap, ap₂, sym, ◌∙◌, refl, arith, filter, sum_by, IsPermutation, FitsSigned, w32, w64}
+use Rattle.std.proofs.lemmas.Int.{ints, to_z-of_z, fits_signed_from_abs}
 use Rattle.std.proofs.lemmas.List.Sorted.{sum_by-IsPermutation, Contains-permutation, IsPermutation-sym}
 use Rattle.std.proofs.lemmas.List.Sums.{sum_by-cons, length-filter}
 use Rattle.finite_groups.proofs.Members as lists
+use Rattle.lattice_algebra.proofs.Machine.{back}
+use Rattle.lattice_algebra.proofs.Numbers.{abs_add}
 use Rattle.refl_merge.specs.declared.measured.Measured.{Measured}
 use Rattle.refl_merge.specs.Merged.{sum_of_values, HasValue}
 
@@ -75,3 +77,18 @@ sum_of_values-append_one [] m = omega (arith, ints)
 sum_of_values-append_one (first ∷ rest) m =
     let again : sum_of_values (rest ++ m ∷ []) ≡ sum_of_values rest +ℤ m.value = sum_of_values-append_one rest m in
     omega (arith, ints, again)
+
+value_size : (v : ℤ) → FitsSigned w32 v → unsigned_abs v ≤ 2 ^ 31
+value_size v f = omega (arith, ints, f)
+
+pub sum_size : (s v : ℤ) (i : ℕ) → FitsSigned w32 v → unsigned_abs s ≤ 2 ^ 31 * i → unsigned_abs (s +ℤ v) ≤ 2 ^ 31 * (i + 1)
+sum_size s v i f l = let small : unsigned_abs v ≤ 2 ^ 31 = value_size v f in omega (arith, ints, abs_add s v, small, l)
+
+-- a sum of fewer than 2^32 values goes on within 64 bits
+pub summed : (s v w : ℤ) (i : ℕ) → FitsSigned w32 v → w ≡ back w32 v → unsigned_abs s ≤ 2 ^ 31 * i → i + 1 < 2 ^ 32 → back w64 (s +ℤ back w64 w) ≡ s +ℤ v
+summed s v w i f e l m =
+    let r : w ≡ v = e ∙ to_z-of_z w32 v f in
+    let small : unsigned_abs v ≤ 2 ^ 31 = value_size v f in
+    let q : back w64 w ≡ v = ap (back w64) r ∙ to_z-of_z w64 v (fits_signed_from_abs w64 v (omega (arith, small))) in
+    let size : unsigned_abs (s +ℤ v) ≤ 2 ^ 31 * (i + 1) = sum_size s v i f l in
+    ap (λ x. back w64 (s +ℤ x)) q ∙ to_z-of_z w64 (s +ℤ v) (fits_signed_from_abs w64 (s +ℤ v) (omega (arith, size, m)))

@@ -23,7 +23,8 @@ pub fn keyed_lines(
     list: &MeasuredList,
     pairs: Pairs,
 ) -> Result<Vec<Keyed>, NoMemory>
-    ensures { IfOk result (λ entries. AreKeyed pairs group.now list.now entries.items) }
+    ensures keyed { IfOk result (λ entries. AreKeyed pairs group.now list.now entries.items) }
+    ensures few { IfOk result (λ entries. length entries.items < 2 ^ 32) }
 {
     let Ok(mut entries) = Vec::with_capacity(alloc, list.len() as usize) else {
         return Err(NoMemory);

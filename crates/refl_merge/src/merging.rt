@@ -1,5 +1,6 @@
 ghost use Rattle.std.specs.Prelude.{◌≡◌, ◌<◌, ◌^◌, ◌↔◌, IfOk, IsTrue, IsSorted, length};
 ghost use Rattle.std.specs.List.{All};
+ghost use Rattle.group_closure.specs.GroupList.{IsGroup};
 ghost use Rattle.phase_rules.specs.declared.pairs.Pairs.{Pairs};
 ghost use Rattle.phase_rules.specs.Marks.{IsAbsent};
 ghost use Rattle.refl_merge.specs.Merged.{IsMergedList, sum_of_values, HasValue};
@@ -23,6 +24,8 @@ pub fn merge(
 ) -> Result<Merged, NoMemory>
     ensures { IfOk result (λ merged. IsMergedList pairs group.now list.now merged) }
 {
+    // Every group says that it is one where its length is asked.
+    let _ = group.len();
     let mut entries = keyed_lines(alloc, group, list, pairs)?;
     entries.sort_unstable_by(|a, b| compare(a, b));
     let lines = gather(alloc, group, &entries)?;
@@ -31,6 +34,7 @@ pub fn merge(
 
 /// The merged lines of entries that are in order.
 fn gather(alloc: Global, group: &Group, entries: &[Keyed]) -> Result<Vec<MergedLine>, NoMemory>
+    requires group { IsGroup group.now }
     requires few { length entries.now < 2 ^ 32 }
     requires sorted { IsSorted entry_cmp entries.now }
     requires keyed { (pairs : Pairs) × All (IsKeyed pairs group.now) entries.now }

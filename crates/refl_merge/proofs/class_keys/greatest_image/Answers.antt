@@ -3,7 +3,7 @@ use Rattle.lattice_algebra.specs.Matrix.{matrix_of}
 use Rattle.lattice_algebra.specs.Operator.{AreWithin}
 use Rattle.phase_rules.specs.declared.TheConstants.{MAX_INDEX}
 use Rattle.phase_rules.specs.declared.pairs.Pairs.TheVariants.{Friedel}
-use Rattle.phase_rules.specs.Rows.{Row, row_of, ◌·ʳ◌, neg_row}
+use Rattle.phase_rules.specs.Rows.{Row, row_of, ◌·ʳ◌}
 use Rattle.refl_merge.specs.Steps.{IsGreatestImage}
 use Rattle.refl_merge.proofs.Greatest.{image_size, image_alone, image_with_opposite, greater_row}
 use Rattle.refl_merge.proofs.class_keys.greatest_image.Goals as goal

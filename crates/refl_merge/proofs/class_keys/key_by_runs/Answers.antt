@@ -9,7 +9,7 @@ loop-i-init c =
     let one = c.run_end-i.ensures.first refl in
     record {
       within = c.run_end-i.ensures.within;
-          three = search rules;
+      three = search rules;
       key = subst (λ n. IsClassKey c.args.pairs (take n c.args.group.now) c.args.index.now (row_of c.greatest_image-key.result)) (sym one) (key_first c.args.pairs c.args.group.now c.args.index.now c.op.result _ c.op.ensures.value c.greatest_image-key.ensures);
     }
 

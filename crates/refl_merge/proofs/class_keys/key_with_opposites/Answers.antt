@@ -1,4 +1,4 @@
-use Rattle.std.proofs.Common.{rules, arith, refl, sym, subst, take}
+use Rattle.std.proofs.Common.{rules, refl, sym, subst, take}
 use Rattle.group_closure.proofs.Places.{contains_at, some_at}
 use Rattle.phase_rules.specs.declared.pairs.Pairs.TheVariants.{Friedel}
 use Rattle.phase_rules.proofs.Opposites.{have_opposites}
@@ -12,7 +12,7 @@ runs-init c =
     let one = c.run_end-i.ensures.first refl in
     record {
       within = c.run_end-i.ensures.within;
-          three = search rules;
+      three = search rules;
       key = subst (λ n. IsClassKey Friedel (take n c.args.group.now) c.args.index.now (row_of c.greatest_image-key.result)) (sym one) (key_first Friedel c.args.group.now c.args.index.now c.op.result _ c.op.ensures.value c.greatest_image-key.ensures);
     }
 

@@ -1,4 +1,4 @@
-use Rattle.std.proofs.Common.{◌≡◌, ◌≤◌, ◌-◌, length, take, vec_len, vec_capacity}
+use Rattle.std.proofs.Common.{◌≤◌, ◌-◌, length, take, vec_len, vec_capacity}
 use Rattle.refl_merge.specs.Steps.{AreGathered, AreBehind}
 use Rattle.refl_merge.proofs.merging.gather.Given as goal
 
