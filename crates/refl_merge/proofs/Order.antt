@@ -1,9 +1,9 @@
 -- The order of rows.
-use Rattle.std.proofs.Common.{◌≡◌, ◌⊎◌, ℤ, List, [], ◌∷◌, length, cond, ap, sym, ◌∙◌, subst, refl, arith, inl, inr, Ordering, Less, Equal, Greater}
+use Rattle.std.proofs.Common.{◌≡◌, ◌⊎◌, ℤ, pos, List, [], ◌∷◌, length, cond, get_or, ap, sym, ◌∙◌, subst, refl, arith, inl, inr, Ordering, Less, Equal, Greater}
 use Rattle.std.specs.Cmp.{IsTotalOrder}
 use Rattle.std.specs.Cmp.Lexicographic.{slice_cmp}
 use Rattle.std.specs.FinMap.{int_cmp-IsAntisymmetric, slice_cmp-IsAntisymmetric}
-use Rattle.std.specs.Ordering.{int_cmp, ordering_reverse, is_lt, ord_max}
+use Rattle.std.specs.Ordering.{int_cmp, ordering_reverse, ordering_then, is_lt, ord_max}
 use Rattle.std.proofs.lemmas.Cmp.{lists_total, on_total, int_cmp_total, tied_itself}
 use Rattle.phase_rules.specs.Rows.{Row, row_of}
 use Rattle.refl_merge.specs.Keys.{numbers_of, row_cmp, IsAbove}
@@ -63,3 +63,21 @@ max_is a b r e = subst (IsGreater a b) (sym e) (by (slice_cmp int_cmp b a) refl)
     by Less p = record { one = inl refl; not_first = itself a; not_second = λ q. let s : Less ≡ Greater = sym q ∙ total.antisymm a b ∙ ap ordering_reverse p in cc }
     by Equal p = record { one = inr refl; not_first = λ q. let s : Less ≡ Equal = sym q ∙ p in cc; not_second = itself b }
     by Greater p = record { one = inr refl; not_first = λ q. let s : Less ≡ Greater = sym q ∙ p in cc; not_second = itself b }
+
+-- where the first two numbers are the same, the third decides
+pub third_decides : (a b : List ℤ) → length a ≡ 3 → length b ≡ 3 → get_or a 0 (pos 0) ≡ get_or b 0 (pos 0) → get_or a 1 (pos 0) ≡ get_or b 1 (pos 0) → slice_cmp int_cmp a b ≡ int_cmp (get_or a 2 (pos 0)) (get_or b 2 (pos 0))
+third_decides a b la lb p q =
+    let r = row_of a in
+    let s = row_of b in
+    let first : int_cmp r.h s.h ≡ Equal = ap (int_cmp r.h) (sym p) ∙ tied_itself int_cmp_total r.h in
+    let second : int_cmp r.k s.k ≡ Equal = ap (int_cmp r.k) (sym q) ∙ tied_itself int_cmp_total r.k in
+    ap (λ v. slice_cmp int_cmp v b) (sym (three_numbers a la))
+    ∙ ap (slice_cmp int_cmp (numbers_of r)) (sym (three_numbers b lb))
+    ∙ ap (λ o. ordering_then o (ordering_then (int_cmp r.k s.k) (ordering_then (int_cmp r.l s.l) Equal))) first
+    ∙ ap (λ o. ordering_then o (ordering_then (int_cmp r.l s.l) Equal)) second
+    ∙ then_equal (int_cmp r.l s.l)
+  where
+    then_equal : (o : Ordering) → ordering_then o Equal ≡ o
+    then_equal Less = refl
+    then_equal Equal = refl
+    then_equal Greater = refl

@@ -9,6 +9,7 @@ ghost use Rattle.phase_rules.specs.Rows.{row_of, ◌·ʳ◌, neg_row};
 ghost use Rattle.refl_merge.specs.Keys.{IsClassKey};
 ghost use Rattle.refl_merge.specs.Steps.{IsGreatestImage};
 
+use crate::rows::greater;
 use exact_ops::Op;
 use group_closure::Group;
 use phase_rules::halves::stands_first;
@@ -35,8 +36,8 @@ fn key_by_runs(group: &Group, index: &Index, pairs: Pairs) -> [i32; 3]
     let mut i = group.run_end(0);
     while i < order {
         let image = greatest_image(index, &group.op(i), pairs);
-        let greater = key.max(image);
-        key = greater;
+        let greatest = greater(&key, &image);
+        key = greatest;
         i = group.run_end(i);
     }
     key
@@ -53,8 +54,8 @@ fn key_with_opposites(group: &Group, index: &Index, inversion: u8) -> [i32; 3]
     let mut i = group.run_end(0);
     'runs: while stands_first(group, i) {
         let image = greatest_image(index, &group.op(i), Pairs::Friedel);
-        let greater = key.max(image);
-        key = greater;
+        let greatest = greater(&key, &image);
+        key = greatest;
         i = group.run_end(i);
     }
     key
@@ -68,7 +69,7 @@ fn greatest_image(index: &Index, op: &Op, pairs: Pairs) -> [i32; 3]
     let _h = index.h;
     let image = index.times(&op.w());
     match pairs {
-        Pairs::Friedel => image.max(opposite(&image)),
+        Pairs::Friedel => greater(&image, &opposite(&image)),
         Pairs::Apart => image,
     }
 }

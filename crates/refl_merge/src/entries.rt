@@ -3,6 +3,7 @@ ghost use Rattle.refl_merge.specs.Steps.{AreKeyed, IsKeyRun, entry_cmp};
 
 use crate::class_keys::class_key;
 use crate::measured::{Measured, MeasuredList};
+use crate::rows::compare_rows;
 use exact_ops::NoMemory;
 use group_closure::Group;
 use phase_rules::Pairs;
@@ -41,7 +42,7 @@ pub fn keyed_lines(
 pub fn compare(a: &Keyed, b: &Keyed) -> Ordering
     ensures { result ≡ entry_cmp a.now b.now }
 {
-    b.key.cmp(&a.key)
+    compare_rows(&b.key, &a.key)
 }
 
 /// Where the entries end that have the key of that at `start`.

@@ -13,6 +13,7 @@ mod laws;
 mod measured;
 mod merged;
 mod merging;
+mod rows;
 
 pub use class_keys::class_key;
 pub use laws::{

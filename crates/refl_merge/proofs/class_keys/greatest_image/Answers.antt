@@ -16,9 +16,9 @@ opposite-requires c =
 pub returns-in-Friedel : goal.returns-in-Friedel
 returns-in-Friedel c =
     let image : row_of c.times-image.result ≡ c.args.index.now ·ʳ c.args.op.now.w = c.times-image.ensures ∙ ap (λ w. c.args.index.now ·ʳ matrix_of w) c.w.ensures.value in
-    subst (λ p. IsGreatestImage p (c.args.index.now ·ʳ c.args.op.now.w) (row_of c.max.result)) (sym c.in-Friedel.is)
-    (subst (λ e. IsGreatestImage Friedel e (row_of c.max.result)) image
-    (image_with_opposite (row_of c.times-image.result) (row_of c.opposite.result) (row_of c.max.result) c.opposite.ensures (greater_row c.times-image.result c.opposite.result c.max.result (search rules) (search rules) c.max.ensures)))
+    subst (λ p. IsGreatestImage p (c.args.index.now ·ʳ c.args.op.now.w) (row_of c.greater.result)) (sym c.in-Friedel.is)
+    (subst (λ e. IsGreatestImage Friedel e (row_of c.greater.result)) image
+    (image_with_opposite (row_of c.times-image.result) (row_of c.opposite.result) (row_of c.greater.result) c.opposite.ensures (greater_row c.times-image.result c.opposite.result c.greater.result (search rules) (search rules) c.greater.ensures)))
 
 pub returns-in-Apart : goal.returns-in-Apart
 returns-in-Apart c =

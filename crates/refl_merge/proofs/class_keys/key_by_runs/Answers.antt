@@ -19,7 +19,7 @@ loop-i-preserved c = record {
   three = search rules;
   key = key_more c.args.pairs c.args.group.now c.args.index.now c.loop-i.i c.run_end-i-in-loop-i.result c.op-in-loop-i.result _ _ _ c.run_end-i-in-loop-i.ensures.beyond c.op-in-loop-i.ensures.value
       (record { first = c.run_end-i-in-loop-i.ensures.first; run = c.run_end-i-in-loop-i.ensures.run }) c.loop-i.invariant.key c.greatest_image-image.ensures
-      (greater_row c.loop-i.key c.greatest_image-image.result c.max-greater.result c.loop-i.invariant.three (search rules) c.max-greater.ensures);
+      (greater_row c.loop-i.key c.greatest_image-image.result c.greater-greatest.result c.loop-i.invariant.three (search rules) c.greater-greatest.ensures);
 }
 
 pub returns : goal.returns

@@ -22,7 +22,7 @@ runs-preserved c = record {
   three = search rules;
   key = key_more Friedel c.args.group.now c.args.index.now c.runs.i c.run_end-i-in-runs.result c.op-in-runs.result _ _ _ c.run_end-i-in-runs.ensures.beyond c.op-in-runs.ensures.value
       (record { first = c.run_end-i-in-runs.ensures.first; run = c.run_end-i-in-runs.ensures.run }) c.runs.invariant.key c.greatest_image-image.ensures
-      (greater_row c.runs.key c.greatest_image-image.result c.max-greater.result c.runs.invariant.three (search rules) c.max-greater.ensures);
+      (greater_row c.runs.key c.greatest_image-image.result c.greater-greatest.result c.runs.invariant.three (search rules) c.greater-greatest.ensures);
 }
 
 pub returns : goal.returns
