@@ -1,7 +1,7 @@
 pub mod Narrow
 pub mod Bounds
 pub mod Listed
-mod Points
+pub mod Points
 pub mod Images
 mod ShiftedImages
 mod WholeShifts

@@ -1,8 +1,7 @@
 -- Which texts are coordinates or triplets, and which lines are good, is decided: so lines are read, or one of them is the first bad one.
-use Rattle.std.proofs.Common.{◌≡◌, ◌⊎◌, ◌+◌, ◌≤◌, ℕ, ℤ, pos, negsuc, List, [], ◌∷◌, length, Option, Some, None, int_eq, refl, sym, ap, ◌∙◌, arith, inl, inr, ⊎_elim}
+use Rattle.std.proofs.Common.{◌≡◌, ◌⊎◌, ◌+◌, ◌≤◌, ℕ, ℤ, pos, negsuc, List, [], ◌∷◌, length, Option, Some, None, int_eq, refl, sym, ◌∙◌, inl, inr, ⊎_elim}
 use Rattle.std.specs.Cmp.{signed_Decides}
 use Rattle.std.proofs.lemmas.Bool.{cases_Bool, cases_lt, false≢true}
-use Rattle.std.proofs.lemmas.List.Elements.{All-nil, All-cons}
 use Rattle.lattice_algebra.specs.Matrix.{Matrix, IsUnimodular, det}
 use Rattle.lattice_algebra.specs.Operator.{Operator}
 use Rattle.lattice_algebra.proofs.Matrices.{IsUnimodular-det, det-IsUnimodular}
@@ -11,10 +10,11 @@ use Rattle.triplet_text.specs.Coordinates.{IsCoordinate, signed_of}
 use Rattle.triplet_text.specs.Pieces.{is_skipped}
 use Rattle.triplet_text.specs.Triplets.{triplet_of}
 use Rattle.triplet_text.specs.Grammar.{IsTriplet}
-use Rattle.triplet_text.specs.Lines.{IsSkipped, IsGood, AreRead, end, skipped, read, IsFirstBad, IsUnreadable, IsNotUnimodular}
+use Rattle.triplet_text.specs.Lines.{IsSkipped, IsGood, IsRead, AreRead, end, IsFirstBad, IsUnreadable, IsNotUnimodular}
 use Rattle.triplet_text.proofs.CoordinateLaw.{coordinate_to, coordinate_from, too_long}
 use Rattle.triplet_text.proofs.GrammarLaw.{triplet_to, triplet_from}
 use Rattle.triplet_text.proofs.LineSteps.{skipped_from, not_skipped}
+use Rattle.triplet_text.proofs.SaidLines.{bad_at_once, bad_later, more_said}
 
 -- ---- coordinates
 
@@ -69,30 +69,12 @@ good_or_bad line = ⊎_elim (λ s. inl (inl (skipped_from line s))) (λ k. kept_
 abbrev pub ReadOrBad : List (List ℕ) → Type 0
 ReadOrBad lines = ((list : List Operator) × AreRead lines list) ⊎ (((k : ℕ) × IsFirstBad IsUnreadable lines k) ⊎ ((k : ℕ) × IsFirstBad IsNotUnimodular lines k))
 
-bad_at_once : (Bad : List ℕ → Type 0) (line : List ℕ) (lines : List (List ℕ)) → Bad line → IsFirstBad Bad (line ∷ lines) 1
-bad_at_once Bad line lines b = record { before = []; line = line; after = lines; cut = refl; good = All-nil IsGood; number = refl; bad = b }
-
-bad_later : (Bad : List ℕ → Type 0) (line : List ℕ) (lines : List (List ℕ)) (k : ℕ) → IsGood line → IsFirstBad Bad lines k → IsFirstBad Bad (line ∷ lines) (k + 1)
-bad_later Bad line lines k g f = record {
-  before = line ∷ f.before;
-  line = f.line;
-  after = f.after;
-  cut = ap (λ (l : List (List ℕ)). line ∷ l) f.cut;
-  good = All-cons IsGood line f.before g f.good;
-  number = omega (arith, f.number);
-  bad = f.bad;
-}
-
-more_read : (line : List ℕ) (lines : List (List ℕ)) → IsGood line → ((list : List Operator) × AreRead lines list) → (list : List Operator) × AreRead (line ∷ lines) list
-more_read line lines (inl s) r = (r.0, skipped s r.1)
-more_read line lines (inr g) r = (g.0 ∷ r.0, read g.1 r.1)
-
 one_more_line : (line : List ℕ) (lines : List (List ℕ)) → GoodOrBad line → ReadOrBad lines → ReadOrBad (line ∷ lines)
-one_more_line line lines (inl g) (inl r) = inl (more_read line lines g r)
-one_more_line line lines (inl g) (inr (inl b)) = inr (inl (b.0 + 1, bad_later IsUnreadable line lines b.0 g b.1))
-one_more_line line lines (inl g) (inr (inr b)) = inr (inr (b.0 + 1, bad_later IsNotUnimodular line lines b.0 g b.1))
-one_more_line line lines (inr (inl u)) rest = inr (inl (1, bad_at_once IsUnreadable line lines u))
-one_more_line line lines (inr (inr n)) rest = inr (inr (1, bad_at_once IsNotUnimodular line lines n))
+one_more_line line lines (inl g) (inl r) = inl (more_said IsRead line lines g r)
+one_more_line line lines (inl g) (inr (inl b)) = inr (inl (b.0 + 1, bad_later IsRead IsUnreadable 1 line lines b.0 g b.1))
+one_more_line line lines (inl g) (inr (inr b)) = inr (inr (b.0 + 1, bad_later IsRead IsNotUnimodular 1 line lines b.0 g b.1))
+one_more_line line lines (inr (inl u)) rest = inr (inl (1, bad_at_once IsRead IsUnreadable 1 line lines u))
+one_more_line line lines (inr (inr n)) rest = inr (inr (1, bad_at_once IsRead IsNotUnimodular 1 line lines n))
 
 pub read_or_bad : (lines : List (List ℕ)) → ReadOrBad lines
 read_or_bad [] = inl ([], end)

@@ -12,7 +12,7 @@ mod Written
 mod Trims
 mod Bounds
 mod Totals
-mod Cuts
+pub mod Cuts
 mod Rows
 pub mod CoordinateLaw
 pub mod IntegerLaw
@@ -22,7 +22,11 @@ mod AffineBytes
 mod AffineUnique
 mod AffineValues
 mod AffineSame
+pub mod SaidLines
 pub mod LineSteps
 pub mod LineLaws
 mod Examples
 pub mod Decided
+mod Dividers
+pub mod Divisions
+pub mod PointTexts

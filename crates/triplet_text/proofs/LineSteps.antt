@@ -1,7 +1,5 @@
 -- Lines that were read one by one.
-use Rattle.std.proofs.Common.{◌≡◌, ℕ, ◌+◌, ◌<◌, ◌≤◌, Bool, true, false, List, [], ◌∷◌, ◌++◌, Option, Some, None, MatchOption, Bor, length, inl, inr, sym, subst, ◌∙◌, refl, arith, length-append, append_assoc}
-use Rattle.std.specs.List.{AllByRecursion}
-use Rattle.std.proofs.lemmas.List.Elements.{All-from_recursion}
+use Rattle.std.proofs.Common.{◌≡◌, ℕ, ◌+◌, ◌<◌, ◌≤◌, Bool, true, false, IsTrue, ◌↔◌, List, [], ◌∷◌, ◌++◌, Option, Some, None, MatchOption, Bor, length, sym, subst, ◌∙◌, refl, arith}
 use Rattle.lattice_algebra.specs.Operator.{Operator}
 use Rattle.triplet_text.specs.declared.lines.LineFault.{LineFault}
 use Rattle.triplet_text.specs.declared.lines.LineFault.TheVariants.{Unreadable, NotUnimodular, NoMemory}
@@ -9,7 +7,8 @@ use borrow.Author.Tests.{eqb-true}
 use Rattle.triplet_text.specs.Bytes.{is_blank, hash}
 use Rattle.triplet_text.specs.Tokens.{Each}
 use Rattle.triplet_text.specs.Pieces.{is_skipped}
-use Rattle.triplet_text.specs.Lines.{IsSkipped, blank, comment, lines_of, IsGood, AreRead, end, skipped, read, AddsRead, IsFirstBad, IsFaultAt, IsFaultOf, IsUnreadable, IsNotUnimodular, IsTripletLine}
+use Rattle.triplet_text.specs.Lines.{IsSkipped, blank, comment, lines_of, IsRead, IsFaultAt, IsFaultOf, IsUnreadable, IsNotUnimodular, IsTripletLine}
+use Rattle.triplet_text.proofs.SaidLines.{AreSaidBefore, first_bad}
 
 -- ---- skipped lines
 
@@ -37,6 +36,9 @@ skipped_to : {line : List ℕ} → IsSkipped line → is_skipped line ≡ true
 skipped_to (blank {line = line} h) = skipped_blank line h
 skipped_to (comment blanks rest h) = skipped_comment blanks rest h
 
+pub skipped_is : (line : List ℕ) (b : Bool) → b ≡ is_skipped line → IsTrue b ↔ IsSkipped line
+skipped_is line b e = ((λ t. skipped_from line (sym e ∙ t)), (λ s. e ∙ skipped_to s))
+
 pub not_skipped : (line : List ℕ) (b : Bool) → b ≡ is_skipped line → b ≡ false → ¬ IsSkipped line
 not_skipped line b is e s = let k = skipped_to s in cc
 
@@ -59,38 +61,11 @@ pub fewer_left : (rest : Option (Bor (List ℕ))) (text line : List ℕ) → Mat
 fewer_left None text line h = omega arith
 fewer_left (Some more) text line h = omega arith
 
-pub joined : {xs : List (List ℕ)} {a : List Operator} → AreRead xs a → (ys : List (List ℕ)) (b : List Operator) → AreRead ys b → AreRead (xs ++ ys) (a ++ b)
-joined end ys b r = r
-joined (skipped s rest) ys b r = skipped s (joined rest ys b r)
-joined (read f rest) ys b r = read f (joined rest ys b r)
-
-pub good_lines : {lines : List (List ℕ)} {list : List Operator} → AreRead lines list → AllByRecursion IsGood lines
-good_lines end = tt
-good_lines (skipped s rest) = (inl s, good_lines rest)
-good_lines (read {f = f} r rest) = (inr (f, r), good_lines rest)
-
 -- the lines before line k are read, and what they say is listed; the further ones are left
-pub record AreReadBefore (lines left : List (List ℕ)) (k : ℕ) (list : List Operator) : Type 0 where
-  pub before : List (List ℕ)
-  pub cut : lines ≡ before ++ left
-  pub number : k ≡ length before + 1
-  pub read : AreRead before list
-
-pub none_read : (lines : List (List ℕ)) → AreReadBefore lines lines 1 []
-none_read lines = record { before = []; cut = refl; number = refl; read = end }
-
-pub one_more : (lines left : List (List ℕ)) (line : List ℕ) (k : ℕ) (old new : List Operator) → AreReadBefore lines (line ∷ left) k old → AddsRead (line ∷ []) old new → AreReadBefore lines left (k + 1) new
-one_more lines left line k old new h a = record {
-  before = h.before ++ line ∷ [];
-  cut = h.cut ∙ sym (append_assoc h.before (line ∷ []) left);
-  number = omega (arith, length-append h.before (line ∷ []), h.number);
-  read = subst (AreRead (h.before ++ line ∷ [])) (sym a.grown) (joined h.read (line ∷ []) a.added a.read);
-}
-
-first_bad : (Bad : List ℕ → Type 0) (lines left : List (List ℕ)) (line : List ℕ) (k n : ℕ) (list : List Operator) → AreReadBefore lines (line ∷ left) k list → n ≡ k → Bad line → IsFirstBad Bad lines n
-first_bad Bad lines left line k n list h e b = record { before = h.before; line = line; after = left; cut = h.cut; good = All-from_recursion IsGood h.before (good_lines h.read); number = e ∙ h.number; bad = b }
+abbrev pub AreReadBefore : List (List ℕ) → List (List ℕ) → ℕ → List Operator → Type 0
+AreReadBefore = AreSaidBefore IsRead 1
 
 pub fault_found : (lines left : List (List ℕ)) (line : List ℕ) (k : ℕ) (list : List Operator) (fault : LineFault) → AreReadBefore lines (line ∷ left) k list → IsFaultAt k line fault → IsFaultOf lines fault
-fault_found lines left line k list (Unreadable n) h f = first_bad IsUnreadable lines left line k n list h f.0 f.1
-fault_found lines left line k list (NotUnimodular n) h f = first_bad IsNotUnimodular lines left line k n list h f.0 f.1
-fault_found lines left line k list NoMemory h f = (k, first_bad IsTripletLine lines left line k k list h refl f)
+fault_found lines left line k list (Unreadable n) h f = first_bad IsRead IsUnreadable 1 lines left line k n list h f.0 f.1
+fault_found lines left line k list (NotUnimodular n) h f = first_bad IsRead IsNotUnimodular 1 lines left line k n list h f.0 f.1
+fault_found lines left line k list NoMemory h f = (k, first_bad IsRead IsTripletLine 1 lines left line k k list h refl f)

@@ -13,3 +13,5 @@ pub mod Fractions
 pub mod Printing
 pub mod AffineTexts
 pub mod Lines
+pub mod Dividers
+pub mod Points

@@ -1,4 +1,4 @@
--- The lines of an input: what they say, and which of them is the first bad one. Lines are counted from 1.
+-- The lines of an input: what they say, and which of them is the first bad one.
 use Rattle.std.specs.Prelude.{◌≡◌, ◌==◌, ◌⊎◌, ℕ, ◌+◌, List, [], ◌∷◌, ◌++◌, length}
 use Rattle.std.specs.List.{All, slice_split}
 use Rattle.lattice_algebra.specs.Matrix.{IsUnimodular}
@@ -17,6 +17,36 @@ lines_of bytes = slice_split (λ byte. byte == line_feed) bytes
 pub data IsSkipped : List ℕ → Type 0 where
   blank : {line : List ℕ} → Each is_blank line → IsSkipped line
   comment : (blanks rest : List ℕ) → Each is_blank blanks → IsSkipped (blanks ++ hash ∷ rest)
+
+-- ---- lines that say something, of whatever kind
+
+-- a line that is skipped, or says something
+abbrev pub IsGoodFor : {A : Type 0} → (List ℕ → A → Type 0) → List ℕ → Type 0
+IsGoodFor {A = A} Says line = IsSkipped line ⊎ ((x : A) × Says line x)
+
+-- line by line: each is skipped or says something, and the list has what is said, in order
+pub data AreSaid {A : Type 0} (Says : List ℕ → A → Type 0) : List (List ℕ) → List A → Type 0 where
+  end : AreSaid Says [] []
+  skipped : {line : List ℕ} {lines : List (List ℕ)} {list : List A} → IsSkipped line → AreSaid Says lines list → AreSaid Says (line ∷ lines) list
+  read : {line : List ℕ} {lines : List (List ℕ)} {x : A} {list : List A} → Says line x → AreSaid Says lines list → AreSaid Says (line ∷ lines) (x ∷ list)
+
+-- a list grew by what these lines say
+pub record AddsSaid {A : Type 0} (Says : List ℕ → A → Type 0) (lines : List (List ℕ)) (old new : List A) : Type 0 where
+  pub added : List A
+  pub read : AreSaid Says lines added
+  pub grown : new ≡ old ++ added
+
+-- the lines are counted from a number on: line k is bad, or such as is asked for, and each line before it is good
+pub record IsFirstBadFrom (first : ℕ) (Good Bad : List ℕ → Type 0) (lines : List (List ℕ)) (k : ℕ) : Type 0 where
+  pub before : List (List ℕ)
+  pub line : List ℕ
+  pub after : List (List ℕ)
+  pub cut : lines ≡ before ++ line ∷ after
+  pub good : All Good before
+  pub number : k ≡ length before + first
+  pub bad : Bad line
+
+-- ---- lines that are triplets, counted from 1
 
 -- a line that is not skipped and is no triplet
 pub record IsUnreadable (line : List ℕ) : Type 0 where
@@ -43,29 +73,19 @@ pub record IsRead (line : List ℕ) (f : Operator) : Type 0 where
   pub unimodular : IsUnimodular f.w
 
 abbrev pub IsGood : List ℕ → Type 0
-IsGood line = IsSkipped line ⊎ ((f : Operator) × IsRead line f)
+IsGood = IsGoodFor IsRead
 
--- line by line: each is skipped or read, and the list has what is read, in order
-pub data AreRead : List (List ℕ) → List Operator → Type 0 where
-  end : AreRead [] []
-  skipped : {line : List ℕ} {lines : List (List ℕ)} {list : List Operator} → IsSkipped line → AreRead lines list → AreRead (line ∷ lines) list
-  read : {line : List ℕ} {lines : List (List ℕ)} {f : Operator} {list : List Operator} → IsRead line f → AreRead lines list → AreRead (line ∷ lines) (f ∷ list)
+-- each line is skipped or read, and the list has what is read, in order
+abbrev pub AreRead : List (List ℕ) → List Operator → Type 0
+AreRead = AreSaid IsRead
 
--- a list grew by what these lines say
-pub record AddsRead (lines : List (List ℕ)) (old new : List Operator) : Type 0 where
-  pub added : List Operator
-  pub read : AreRead lines added
-  pub grown : new ≡ old ++ added
+-- a list grew by what is read of these lines
+abbrev pub AddsRead : List (List ℕ) → List Operator → List Operator → Type 0
+AddsRead = AddsSaid IsRead
 
--- line k is bad, or such as is asked for, and each line before it is good
-pub record IsFirstBad (Bad : List ℕ → Type 0) (lines : List (List ℕ)) (k : ℕ) : Type 0 where
-  pub before : List (List ℕ)
-  pub line : List ℕ
-  pub after : List (List ℕ)
-  pub cut : lines ≡ before ++ line ∷ after
-  pub good : All IsGood before
-  pub number : k ≡ length before + 1
-  pub bad : Bad line
+-- line k is the first bad one, or the first such as is asked for
+abbrev pub IsFirstBad : (List ℕ → Type 0) → List (List ℕ) → ℕ → Type 0
+IsFirstBad Bad = IsFirstBadFrom 1 IsGood Bad
 
 -- a fault names the first bad line by its kind; memory is wanted for a triplet alone, behind lines that are good
 abbrev pub IsFaultOf : List (List ℕ) → LineFault → Type 0

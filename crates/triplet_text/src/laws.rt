@@ -2,6 +2,7 @@ ghost use Rattle.std.specs.Prelude.{◌≡◌, ◌<◌, ◌^◌, ◌⊎◌, List
 ghost use Rattle.lattice_algebra.specs.Operator.{Operator};
 ghost use Rattle.triplet_text.specs.Grammar.{IsTriplet};
 ghost use Rattle.triplet_text.specs.Lines.{AreRead, IsFirstBad, IsUnreadable, IsNotUnimodular};
+ghost use Rattle.triplet_text.specs.Dividers.{AreDivided};
 ghost use Rattle.triplet_text.specs.Coordinates.{IsCoordinate};
 ghost use Rattle.triplet_text.specs.Fractions.{fraction_text, frac_text};
 ghost use Rattle.triplet_text.specs.Printing.{affine_text, IsPrintable, IsSameMap};
@@ -60,4 +61,17 @@ pub fn affine_text_is_unique()
 pub fn affine_map_has_one_text()
     ensures { (d e : ℕ) (f g : Operator) → 0 < d → 0 < e
         → IsSameMap d f e g → affine_text d f ≡ affine_text e g }
+{}
+
+/// The lines of an input are divided in one way: those before the first divider and those after it, or all before it.
+pub fn lines_are_divided()
+    ensures { (lines : List (List ℕ)) → (head : List (List ℕ)) × (tail : List (List ℕ))
+        × (first : ℕ) × AreDivided lines head tail first }
+{}
+
+/// There is one such way.
+pub fn division_is_unique()
+    ensures { (lines head other tail rest : List (List ℕ)) (first second : ℕ)
+        → AreDivided lines head tail first → AreDivided lines other rest second
+        → (head ≡ other) × (tail ≡ rest) × (first ≡ second) }
 {}

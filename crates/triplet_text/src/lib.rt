@@ -11,12 +11,15 @@
 mod affine;
 mod component;
 mod coordinate;
+mod divider;
 mod fraction;
 mod integer;
 mod laws;
 mod lines;
 mod number;
+pub mod parts;
 mod pieces;
+mod point;
 mod printing;
 mod sum;
 mod term;
@@ -25,14 +28,18 @@ mod triplet;
 
 pub use affine::print_affine;
 pub use coordinate::{COORDINATE_LENGTH, DECIMALS_LIMIT, read_coord};
+pub use divider::split;
 pub use fraction::print_frac;
 pub use integer::{read_integer, read_natural};
 pub use laws::{
     affine_map_has_one_text, affine_text_has_one_map, affine_text_has_values,
-    affine_text_is_unique, coordinate_is_unique, equal_fractions_have_one_text,
-    fraction_text_has_value, lines_are_read_or_bad, triplet_is_unique,
+    affine_text_is_unique, coordinate_is_unique, division_is_unique,
+    equal_fractions_have_one_text, fraction_text_has_value, lines_are_divided,
+    lines_are_read_or_bad, triplet_is_unique,
 };
-pub use lines::{LineFault, read_lines};
+pub use lines::{LineFault, cut_line, is_skipped_line, read_lines};
+pub use pieces::{is_blank_byte, without_blanks_before};
+pub use point::read_point;
 pub use printing::{OVER_LIMIT, PARTS_LIMIT, print_move, print_triplet};
 pub use text::{InPlace, TEXT_ROOM, Text};
 pub use triplet::{LINE_LENGTH, read_triplet};

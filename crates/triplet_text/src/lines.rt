@@ -1,7 +1,7 @@
-ghost use Rattle.std.specs.Prelude.{◌≡◌, ◌==◌, ◌∷◌, [], ◌+◌, ◌<◌, ◌^◌, MatchOption, OnOk, IfOk, IfErr, length, position};
+ghost use Rattle.std.specs.Prelude.{◌≡◌, ◌==◌, ◌↔◌, false, ◌∷◌, [], ◌++◌, ◌+◌, ◌<◌, ◌^◌, MatchOption, OnOk, IfOk, IfErr, IsTrue, length, position};
+ghost use Rattle.std.specs.List.{All};
 ghost use Rattle.triplet_text.specs.Bytes.{line_feed};
-ghost use Rattle.triplet_text.specs.Pieces.{is_skipped};
-ghost use Rattle.triplet_text.specs.Lines.{lines_of, AreRead, AddsRead, IsFaultAt, IsFaultOf};
+ghost use Rattle.triplet_text.specs.Lines.{lines_of, IsSkipped, AreRead, AddsRead, IsFaultAt, IsFaultOf};
 
 use crate::pieces::is_blank_byte;
 use crate::triplet::read_triplet;
@@ -42,7 +42,10 @@ pub fn read_lines(alloc: Global, bytes: &[u8]) -> Result<OpList, LineFault>
 }
 
 /// The first line, and what follows its line feed, where it has one.
-fn cut_line(bytes: &[u8]) -> (&[u8], Option<&[u8]>)
+pub fn cut_line(bytes: &[u8]) -> (&[u8], Option<&[u8]>)
+    ensures whole { MatchOption result.1 (bytes.now ≡ result.0.now)
+        (λ more. bytes.now ≡ result.0.now ++ line_feed ∷ more.now) }
+    ensures line { All (λ byte. (byte == line_feed) ≡ false) result.0.now }
     ensures lines { MatchOption result.1 (lines_of bytes.now ≡ result.0.now ∷ [])
         (λ more. lines_of bytes.now ≡ result.0.now ∷ lines_of more.now) }
     ensures shorter { MatchOption result.1 (result.0.now ≡ bytes.now)
@@ -78,8 +81,9 @@ fn take_line(list: &mut OpList, number: u32, line: &[u8]) -> Result<(), LineFaul
     }
 }
 
-fn is_skipped_line(line: &[u8]) -> bool
-    ensures { result ≡ is_skipped line.now }
+/// Whether the line is blank, or its first byte that is no blank is `#`.
+pub fn is_skipped_line(line: &[u8]) -> bool
+    ensures { IsTrue result ↔ IsSkipped line.now }
 {
     for byte in line {
         if !is_blank_byte(*byte) {

@@ -1,9 +1,11 @@
 use Rattle.std.proofs.Common.{arith}
-use Rattle.triplet_text.proofs.LineSteps.{lines_cut, fewer_left, none_read, one_more, fault_found}
+use Rattle.triplet_text.specs.Lines.{IsRead}
+use Rattle.triplet_text.proofs.SaidLines.{none_said, one_more}
+use Rattle.triplet_text.proofs.LineSteps.{lines_cut, fewer_left, fault_found}
 use Rattle.triplet_text.proofs.lines.read_lines.Goals as goal
 
 pub loop-rest-init : goal.loop-rest-init
-loop-rest-init c = record { read = rw c.new-list.ensures (none_read _); count = omega arith }
+loop-rest-init c = record { read = rw c.new-list.ensures (none_said IsRead 1 _); count = omega arith }
 
 pub returns-in-Err-clause-fault : goal.returns-in-Err-clause-fault
 returns-in-Err-clause-fault c =
@@ -17,6 +19,6 @@ loop-rest-preserved c =
     let read = rw (c.in-Some.is, e) at c.loop-rest.invariant.read in
     let count = rw c.in-Some.is at c.loop-rest.invariant.count in
     record {
-      read = one_more _ _ _ _ _ _ read c.in_default-take_line.ensures.read;
+      read = one_more IsRead 1 _ _ _ _ _ _ read c.in_default-take_line.ensures.read;
       count = omega (arith, fewer_left c.cut_line.result.1 c.in-Some.text.now c.cut_line.result.0.now c.cut_line.ensures.shorter, count);
     }

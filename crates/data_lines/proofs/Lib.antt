@@ -1,0 +1,3 @@
+mod Faults
+mod Cuts
+pub mod DataLaws
