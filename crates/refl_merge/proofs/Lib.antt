@@ -6,3 +6,4 @@ mod Runs
 mod Gathering
 mod Finishing
 mod MergedLists
+mod Pages

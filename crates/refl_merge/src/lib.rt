@@ -13,6 +13,7 @@ mod laws;
 mod measured;
 mod merged;
 mod merging;
+mod printing;
 mod rows;
 
 pub use class_keys::class_key;
@@ -23,3 +24,4 @@ pub use laws::{
 pub use measured::{Measured, MeasuredList};
 pub use merged::{Merged, MergedLine};
 pub use merging::merge;
+pub use printing::print_merged;

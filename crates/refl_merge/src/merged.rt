@@ -35,11 +35,20 @@ impl Model for Merged {
 }
 
 impl Merged {
+    ghost use Rattle.refl_merge.specs.Texts.{observed_count};
+
     /// How many classes it has.
     pub fn len(&self) -> u32
         ensures { result ≡ length self.now }
     {
         self.lines.len() as u32
+    }
+
+    /// How many of its classes are absent, and have a value other than 0.
+    pub fn observed_absences(&self) -> u32
+        ensures { result ≡ observed_count self.now }
+    {
+        self.lines.iter().filter(|line| line.observed).count() as u32
     }
 
     /// The line at place k, counted from 0.
