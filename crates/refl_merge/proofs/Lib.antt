@@ -7,3 +7,4 @@ mod Gathering
 mod Finishing
 mod MergedLists
 mod Pages
+mod LineTexts

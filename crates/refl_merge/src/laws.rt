@@ -8,7 +8,9 @@ ghost use Rattle.phase_rules.specs.Equivalent.{AreEquivalent};
 ghost use Rattle.refl_merge.specs.declared.measured.Measured.{Measured};
 ghost use Rattle.refl_merge.specs.declared.merged.MergedLine.{MergedLine};
 ghost use Rattle.refl_merge.specs.Keys.{IsClassKey};
+ghost use Rattle.refl_merge.specs.MeasuredLines.{IsMeasuredLine};
 ghost use Rattle.refl_merge.specs.Merged.{IsMergedList, IsOnlyLineOf};
+ghost use Rattle.refl_merge.specs.Texts.{IsMergedText};
 
 /// Each class has a key.
 pub fn some_class_key()
@@ -42,6 +44,21 @@ pub fn one_class_of_each_line()
         (merged : List MergedLine) (m : Measured) → IsGroup members
         → IsMergedList pairs members lines merged → Contains lines m
         → (line : MergedLine) × IsOnlyLineOf pairs members merged m.index line }
+{}
+
+/// A line writes one index and value at most.
+pub fn measured_line_is_unique()
+    ensures { (line : List ℕ) (a b : Measured) → IsMeasuredLine line a → IsMeasuredLine line b
+        → a ≡ b }
+{}
+
+/// The merged list of some lines has one text, and one only.
+pub fn one_text_of_merged_lines()
+    ensures some { (pairs : Pairs) (members : List Operator) (lines : List Measured)
+        → IsGroup members → (text : List ℕ) × IsMergedText pairs members lines text }
+    ensures one { (pairs : Pairs) (members : List Operator) (lines : List Measured)
+        (a b : List ℕ) → IsGroup members → IsMergedText pairs members lines a
+        → IsMergedText pairs members lines b → a ≡ b }
 {}
 
 /// The counts of the classes have the number of the measured lines as their sum.

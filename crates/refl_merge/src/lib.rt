@@ -14,14 +14,16 @@ mod measured;
 mod merged;
 mod merging;
 mod printing;
+mod reading;
 mod rows;
 
 pub use class_keys::class_key;
 pub use laws::{
-    counts_of_all_lines, one_class_key, one_class_of_each_line, one_merged_list, some_class_key,
-    some_merged_list,
+    counts_of_all_lines, measured_line_is_unique, one_class_key, one_class_of_each_line,
+    one_merged_list, one_text_of_merged_lines, some_class_key, some_merged_list,
 };
 pub use measured::{Measured, MeasuredList};
 pub use merged::{Merged, MergedLine};
 pub use merging::merge;
 pub use printing::print_merged;
+pub use reading::{INDEX_DIGITS, MeasuredFault, VALUE_DIGITS, read_list, read_measured};

@@ -15,7 +15,7 @@ pub struct Measured {
 /// Measured lines in the order in which they were pushed, fewer than 2^32. It is seen as the list of them.
 #[derive(Drop)]
 pub struct MeasuredList {
-    lines: Vec<Measured>,
+    pub(crate) lines: Vec<Measured>,
 }
 
 impl Model for MeasuredList {

@@ -1,4 +1,4 @@
-use Rattle.std.proofs.Common.{rules, ◌∙◌, ap, w32, FitsSigned}
+use Rattle.std.proofs.Common.{rules, ◌∙◌, ap, w32}
 use Rattle.std.specs.Fmt.{signed_decimal}
 use Rattle.std.proofs.lemmas.Int.{to_z-of_z}
 use Rattle.refl_merge.proofs.Pages.{row_pushed}
