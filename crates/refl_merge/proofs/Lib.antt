@@ -1,10 +1,11 @@
 mod Order
 mod Greatest
-mod Classes
+pub mod Classes
 mod Totals
 mod Runs
 mod Gathering
 mod Finishing
-mod MergedLists
+pub mod MergedLists
 mod Pages
-mod LineTexts
+pub mod LineTexts
+mod Examples

@@ -1,11 +1,11 @@
 -- What a measured line writes: a value at most, and whether it writes one is decided.
-use Rattle.std.proofs.Common.{◌≡◌, ◌+◌, ◌*◌, ◌-◌, ◌^◌, ◌<◌, ◌≤◌, ℕ, suc, ◌==◌, mul-le-mul, le_refl, ℤ, pos, unsigned_abs, true, List, [], ◌∷◌, length, sym, subst, ◌∙◌, arith, w32}
+use Rattle.std.proofs.Common.{◌≡◌, ◌+◌, ◌*◌, ◌-◌, ◌^◌, ◌<◌, ◌≤◌, ℕ, suc, ◌==◌, mul-le-mul, le_refl, ℤ, pos, unsigned_abs, true, List, [], ◌∷◌, length, refl, sym, subst, ◌∙◌, arith, w32, ◌⊎◌, inl, inr}
 use Rattle.std.proofs.Math.Nat.{pow-suc, pow-le-pow_right}
 use Rattle.std.proofs.lemmas.Bool.Decides.{nat_tests}
 use Rattle.std.proofs.lemmas.List.Splits.{length-slice_split}
 use Rattle.std.proofs.lemmas.List.Sums.{count_by-le-length}
 use Rattle.lattice_algebra.proofs.Machine.{back, kept}
-use Rattle.lattice_algebra.proofs.Numbers.{abs_neg}
+use Rattle.lattice_algebra.proofs.Numbers.{abs_neg, within_or_not}
 use Rattle.lattice_algebra.specs.Operator.{AreWithin}
 use Rattle.phase_rules.specs.declared.TheConstants.{MAX_INDEX}
 use Rattle.triplet_text.specs.Bytes.{is_digit, line_feed}
@@ -13,8 +13,9 @@ use Rattle.triplet_text.specs.Grammar.{value_of}
 use Rattle.triplet_text.specs.Tokens.{Each}
 use Rattle.triplet_text.specs.Integers.{IsNatural, IsInteger, bare, plus, minus}
 use Rattle.triplet_text.specs.Lines.{lines_of, end, skipped, read}
-use Rattle.triplet_text.proofs.IntegerLaw.{one_integer}
+use Rattle.triplet_text.proofs.IntegerLaw.{one_integer, IntegerOrNone, integer_or_none}
 use Rattle.data_lines.specs.Fields.{fields_of}
+use Rattle.data_lines.proofs.DataLaws.{WrittenOrNot}
 use Rattle.refl_merge.specs.declared.measured.Measured.{Measured}
 use Rattle.refl_merge.specs.declared.reading.TheConstants.{INDEX_DIGITS, VALUE_DIGITS}
 use Rattle.refl_merge.specs.MeasuredLines.{IsMeasuredLine, AreMeasuredLines}
@@ -94,6 +95,31 @@ module _ (line h k l value : List ℕ) (fields : fields_of line ≡ h ∷ k ∷ 
       let z : a.index.l ≡ b.index.l = one_integer INDEX_DIGITS l a.index.l b.index.l p.is_l q.is_l in
       let v : a.value ≡ b.value = one_integer VALUE_DIGITS value a.value b.value p.is_value q.is_value in
       λ i. record { index = record { h = x i; k = y i; l = z i }; value = v i }
+
+  numbers_decided : IntegerOrNone INDEX_DIGITS h → IntegerOrNone INDEX_DIGITS k → IntegerOrNone INDEX_DIGITS l → IntegerOrNone VALUE_DIGITS value → WrittenOrNot IsMeasuredLine line
+  numbers_decided (inl x) (inl y) (inl z) (inl v) = by (within_or_not MAX_INDEX x.0 y.0 z.0)
+    where
+      by : AreWithin MAX_INDEX x.0 y.0 z.0 ⊎ (AreWithin MAX_INDEX x.0 y.0 z.0 → ⊥) → WrittenOrNot IsMeasuredLine line
+      by (inl w) = inl (
+        record { index = record { h = x.0; k = y.0; l = z.0 }; value = v.0 },
+        record { h = h; k = k; l = l; value = value; fields = fields; is_h = x.1; is_k = y.1; is_l = z.1; in_range = w; is_value = v.1 },
+      )
+      by (inr n) = inr (no_index x.0 y.0 z.0 x.1 y.1 z.1 n)
+  numbers_decided (inr n) b c d = inr (λ m w. n m.index.h (numbers_of_fields m w).is_h)
+  numbers_decided (inl x) (inr n) c d = inr (λ m w. n m.index.k (numbers_of_fields m w).is_k)
+  numbers_decided (inl x) (inl y) (inr n) d = inr (λ m w. n m.index.l (numbers_of_fields m w).is_l)
+  numbers_decided (inl x) (inl y) (inl z) (inr n) = inr (λ m w. n m.value (numbers_of_fields m w).is_value)
+
+four_or_not : (line : List ℕ) (fields : List (List ℕ)) → fields_of line ≡ fields → WrittenOrNot IsMeasuredLine line
+four_or_not line (h ∷ k ∷ l ∷ value ∷ []) e = numbers_decided line h k l value e (integer_or_none INDEX_DIGITS h) (integer_or_none INDEX_DIGITS k) (integer_or_none INDEX_DIGITS l) (integer_or_none VALUE_DIGITS value)
+four_or_not line [] e = inr (λ m w. let f = sym w.fields ∙ e in absurd cc)
+four_or_not line (a ∷ []) e = inr (λ m w. let f = sym w.fields ∙ e in absurd cc)
+four_or_not line (a ∷ b ∷ []) e = inr (λ m w. let f = sym w.fields ∙ e in absurd cc)
+four_or_not line (a ∷ b ∷ c ∷ []) e = inr (λ m w. let f = sym w.fields ∙ e in absurd cc)
+four_or_not line (a ∷ b ∷ c ∷ d ∷ f ∷ more) e = inr (λ m w. let g = sym w.fields ∙ e in absurd cc)
+
+pub measured_or_not : (line : List ℕ) → WrittenOrNot IsMeasuredLine line
+measured_or_not line = four_or_not line (fields_of line) refl
 
 pub one_measured : (line : List ℕ) (a b : Measured) → IsMeasuredLine line a → IsMeasuredLine line b → a ≡ b
 one_measured line a b p q = one_with_numbers line p.h p.k p.l p.value p.fields a b (numbers_of_fields line p.h p.k p.l p.value p.fields a p) (numbers_of_fields line p.h p.k p.l p.value p.fields b q)

@@ -1,14 +1,15 @@
-ghost use Rattle.std.specs.Prelude.{◌≡◌, ℕ, List, length, sum_by};
+ghost use Rattle.std.specs.Prelude.{◌≡◌, ◌⊎◌, ℕ, List, length, sum_by};
 ghost use Rattle.std.specs.List.{Contains};
 ghost use Rattle.lattice_algebra.specs.Operator.{Operator};
 ghost use Rattle.group_closure.specs.GroupList.{IsGroup};
 ghost use Rattle.phase_rules.specs.declared.pairs.Pairs.{Pairs};
 ghost use Rattle.phase_rules.specs.Rows.{Row};
 ghost use Rattle.phase_rules.specs.Equivalent.{AreEquivalent};
+ghost use Rattle.data_lines.specs.DataLines.{IsFirstSuch, IsBadLine};
 ghost use Rattle.refl_merge.specs.declared.measured.Measured.{Measured};
 ghost use Rattle.refl_merge.specs.declared.merged.MergedLine.{MergedLine};
 ghost use Rattle.refl_merge.specs.Keys.{IsClassKey};
-ghost use Rattle.refl_merge.specs.MeasuredLines.{IsMeasuredLine};
+ghost use Rattle.refl_merge.specs.MeasuredLines.{IsMeasuredLine, AreMeasuredLines};
 ghost use Rattle.refl_merge.specs.Merged.{IsMergedList, IsOnlyLineOf};
 ghost use Rattle.refl_merge.specs.Texts.{IsMergedText};
 
@@ -50,6 +51,13 @@ pub fn one_class_of_each_line()
 pub fn measured_line_is_unique()
     ensures { (line : List ℕ) (a b : Measured) → IsMeasuredLine line a → IsMeasuredLine line b
         → a ≡ b }
+{}
+
+/// Lines are all read, or one is the first bad one.
+pub fn measured_lines_are_read_or_bad()
+    ensures { (first : ℕ) (lines : List (List ℕ))
+        → ((list : List Measured) × AreMeasuredLines lines list)
+        ⊎ ((k : ℕ) × IsFirstSuch IsMeasuredLine (IsBadLine IsMeasuredLine) first lines k) }
 {}
 
 /// The merged list of some lines has one text, and one only.
