@@ -1,4 +1,4 @@
-ghost use Rattle.std.specs.Prelude.{◌≡◌, ◌⊎◌, ℕ, List, length, sum_by};
+ghost use Rattle.std.specs.Prelude.{◌≡◌, ◌↔◌, ◌⊎◌, IsTrue, ℕ, List, length, sum_by};
 ghost use Rattle.std.specs.List.{Contains};
 ghost use Rattle.lattice_algebra.specs.Operator.{Operator};
 ghost use Rattle.group_closure.specs.GroupList.{IsGroup};
@@ -10,8 +10,14 @@ ghost use Rattle.refl_merge.specs.declared.measured.Measured.{Measured};
 ghost use Rattle.refl_merge.specs.declared.merged.MergedLine.{MergedLine};
 ghost use Rattle.refl_merge.specs.Keys.{IsClassKey};
 ghost use Rattle.refl_merge.specs.MeasuredLines.{IsMeasuredLine, AreMeasuredLines};
-ghost use Rattle.refl_merge.specs.Merged.{IsMergedList, IsOnlyLineOf};
+ghost use Rattle.refl_merge.specs.Merged.{are_equivalent, IsMergedList, IsOnlyLineOf};
 ghost use Rattle.refl_merge.specs.Texts.{IsMergedText};
+
+/// The test of equivalence, by which the lines of a class are chosen, tells which indices are equivalent.
+pub fn test_of_equivalence()
+    ensures { (pairs : Pairs) (members : List Operator) (h g : Row)
+        → (IsTrue (are_equivalent pairs members h g) ↔ AreEquivalent pairs members h g) }
+{}
 
 /// Each class has a key.
 pub fn some_class_key()

@@ -23,7 +23,7 @@ pub use class_keys::class_key;
 pub use laws::{
     counts_of_all_lines, measured_line_is_unique, measured_lines_are_read_or_bad, one_class_key,
     one_class_of_each_line, one_merged_list, one_text_of_merged_lines, some_class_key,
-    some_merged_list,
+    some_merged_list, test_of_equivalence,
 };
 pub use measured::{Measured, MeasuredList};
 pub use merged::{Merged, MergedLine};
