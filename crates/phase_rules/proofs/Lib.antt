@@ -4,5 +4,5 @@ pub mod Phases
 pub mod Runs
 pub mod Opposites
 pub mod SomeMark
-mod Alike
+pub mod Alike
 mod Examples
