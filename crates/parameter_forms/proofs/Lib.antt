@@ -1,0 +1,4 @@
+pub mod Along
+pub mod Columns
+pub mod OneForm
+pub mod SamePoints

@@ -1,0 +1,1 @@
+-- Parameter forms as they are kept, and how they are found.
