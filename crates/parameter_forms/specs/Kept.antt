@@ -1,1 +1,0 @@
--- Parameter forms as they are kept, and how they are found.
