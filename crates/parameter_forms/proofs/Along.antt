@@ -1,15 +1,21 @@
 -- Vectors along the image of a matrix.
-use Rattle.std.proofs.Common.{◌≡◌, ◌≢◌, ◌++◌, ◌∷◌, [], ◌<◌, ℕ, zero, suc, ℤ, pos, ◌*ℤ◌, ◌+ℤ◌, neg_ℤ, ⊎_elim, ap, ap₂, sym, ◌∙◌, arith}
+use Rattle.std.proofs.Common.{◌≡◌, ◌≢◌, ◌++◌, ◌∷◌, [], ◌<◌, ◌*◌, ℕ, zero, suc, ℤ, pos, negsuc, ◌<ℤ◌, ◌*ℤ◌, ◌+ℤ◌, neg_ℤ, ⊎_elim, ap, ap₂, sym, refl, ◌∙◌, arith}
 use Rattle.std.proofs.lemmas.Int.{ints}
 use lib.IntN.{*ℤ-zero}
 use Rattle.lattice_algebra.specs.Matrix.{Matrix, Column, entries, coordinates, origin, ◌·ᶜ◌, ◌+ᶜ◌, times}
 use Rattle.lattice_algebra.proofs.Ring.{known, var, con, ◌⊕◌, ◌⊗◌, neg, ring_from}
 use Rattle.lattice_algebra.proofs.MatrixRing.{matrix_at, column_at, ◌·ˢᶜ◌, ◌+ˢᶜ◌, sym_times, sym_origin, column_ring}
-use Rattle.lattice_algebra.proofs.Numbers.{cancel_some, zero_or_other}
+use Rattle.lattice_algebra.proofs.Numbers.{above, positive_product, cancel_some, zero_or_other}
+use Rattle.lattice_algebra.proofs.Columns.{times-times}
 use Rattle.parameter_forms.specs.Forms.{coordinate, IsAlong, IsFree}
 
 pub some_product : (a b : ℤ) → a ≢ pos 0 → b ≢ pos 0 → a *ℤ b ≢ pos 0
 some_product a b p q e = q (cancel_some a b (pos 0) p (e ∙ sym (*ℤ-zero a)))
+
+pub square_positive : (k : ℤ) → k ≢ pos 0 → pos 0 <ℤ (k *ℤ k)
+square_positive (pos zero) some = absurd (some refl)
+square_positive (pos (suc k)) some = above (suc k * suc k) (positive_product (suc k) (suc k) (omega arith) (omega arith))
+square_positive (negsuc k) some = above (suc k * suc k) (positive_product (suc k) (suc k) (omega arith) (omega arith))
 
 one_is_some : pos 1 ≢ pos 0
 one_is_some e = omega (arith, ints, e)
@@ -29,6 +35,10 @@ times_origin m = column_ring (entries m) (sym_times (con (pos 1)) sym_origin) (m
 
 pub origin_along : (m : Matrix) → IsAlong m origin
 origin_along m = record { number = pos 1; some = one_is_some; from = origin; equal = times_origin m }
+
+-- what has a multiple along it
+pub along_of_times : (m : Matrix) (k : ℤ) (v : Column) → k ≢ pos 0 → IsAlong m (times k v) → IsAlong m v
+along_of_times m k v some p = record { number = p.number *ℤ k; some = some_product p.number k p.some some; from = p.from; equal = sym (times-times p.number k v) ∙ p.equal }
 
 -- sums of multiples
 spread : (a b j k : ℤ) (u v : Column) → times (j *ℤ k) (times a u +ᶜ times b v) ≡ times (a *ℤ k) (times j u) +ᶜ times (b *ℤ j) (times k v)
@@ -63,17 +73,17 @@ sum_along m a b u v p q = record {
 -- ---- a vector that is 0 in every free coordinate is 0
 
 -- what holds of the first coordinates
-abbrev AreZeroBefore : Column → ℕ → Type 0
+abbrev pub AreZeroBefore : Column → ℕ → Type 0
 AreZeroBefore u j = (i : ℕ) → i < j → coordinate u i ≡ pos 0
 
-before_x : (u : Column) → AreZeroBefore u 0
+pub before_x : (u : Column) → AreZeroBefore u 0
 before_x u i l = absurd (omega (arith, l))
 
-before_y : (u : Column) → u.x ≡ pos 0 → AreZeroBefore u 1
+pub before_y : (u : Column) → u.x ≡ pos 0 → AreZeroBefore u 1
 before_y u x zero l = x
 before_y u x (suc i) l = absurd (omega (arith, l))
 
-before_z : (u : Column) → u.x ≡ pos 0 → u.y ≡ pos 0 → AreZeroBefore u 2
+pub before_z : (u : Column) → u.x ≡ pos 0 → u.y ≡ pos 0 → AreZeroBefore u 2
 before_z u x y zero l = x
 before_z u x y (suc zero) l = y
 before_z u x y (suc (suc i)) l = absurd (omega (arith, l))

@@ -10,7 +10,7 @@ use Rattle.parameter_forms.proofs.Along.{origin_along, sum_along, nothing_free, 
 abbrev pub IsParameterColumn : Matrix → ℤ → ℕ → Column → Type 0
 IsParameterColumn m d j v = (IsFree m j × IsUnitVector m d j v) ⊎ ((IsFree m j → ⊥) × (v ≡ origin))
 
-origin_at : (i : ℕ) → coordinate origin i ≡ pos 0
+pub origin_at : (i : ℕ) → coordinate origin i ≡ pos 0
 origin_at zero = refl
 origin_at (suc zero) = refl
 origin_at (suc (suc zero)) = refl
@@ -29,7 +29,7 @@ other m d j v p i free apart = ⊎_elim (λ f. f.1.others i free apart) (λ n. a
 
 -- ---- B leaves what is along the image, but for the number d
 
-by_columns : (b : Matrix) (v : Column) → b ·ᶜ v ≡ times (pos 1) (times v.x (nth_column b 0) +ᶜ times v.y (nth_column b 1)) +ᶜ times v.z (nth_column b 2)
+pub by_columns : (b : Matrix) (v : Column) → b ·ᶜ v ≡ times (pos 1) (times v.x (nth_column b 0) +ᶜ times v.y (nth_column b 1)) +ᶜ times v.z (nth_column b 2)
 unfolding ◌·ᶜ◌ ◌+ᶜ◌ times
 by_columns b v =
     let B = matrix_at 0 in

@@ -11,7 +11,7 @@ use Rattle.lattice_algebra.proofs.Columns.{times-times, swap_times, ·ᶜ-times}
 use Rattle.space_groups.specs.Keys.{Key}
 use Rattle.space_groups.specs.Rows.{Lies, row_point}
 use Rattle.parameter_forms.specs.Forms.{IsAlong, Form, pair_of, IsParameterForm}
-use Rattle.parameter_forms.proofs.Along.{image_along}
+use Rattle.parameter_forms.proofs.Along.{image_along, square_positive}
 use Rattle.parameter_forms.proofs.Columns.{made_along, leaves_along}
 
 -- a point is the same with k times its numbers
@@ -88,11 +88,6 @@ taken_out u n d e i a s k =
     let K = column_at 11 in
     column_ring (u ∷ n ∷ d ∷ e ∷ i ∷ (coordinates a ++ (coordinates s ++ coordinates k))) (sym_times (I ⊗ U) (sym_times (U ⊗ N) A +ˢᶜ sym_times E (sym_times N S) +ˢᶜ sym_times (U ⊗ N ⊗ D ⊗ E) K))
     (sym_times (I ⊗ U ⊗ N) (sym_times U A +ˢᶜ sym_times E S +ˢᶜ sym_times (U ⊗ D ⊗ E) K)) tt
-
-square_positive : (k : ℤ) → k ≢ pos 0 → pos 0 <ℤ (k *ℤ k)
-square_positive (pos zero) some = absurd (some refl)
-square_positive (pos (suc k)) some = above (suc k * suc k) (positive_product (suc k) (suc k) (omega arith) (omega arith))
-square_positive (negsuc k) some = above (suc k * suc k) (positive_product (suc k) (suc k) (omega arith) (omega arith))
 
 product_positive : (a b : ℤ) → pos 0 <ℤ a → pos 0 <ℤ b → pos 0 <ℤ (a *ℤ b)
 product_positive (pos a) b h p = positive_times a b (omega (arith, ints, h)) p

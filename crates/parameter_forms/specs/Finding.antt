@@ -28,9 +28,9 @@ pub record IsLine (m : Matrix) (v : Column) : Type 0 where
   pub along : IsAlong m v
   pub multiples : (w : Column) → IsAlong m w → (k e : ℤ) × (k ≢ pos 0) × (times k w ≡ times e v)
 
--- v is the first of three vectors that is not zero, or all of them are
-abbrev pub IsFirstOther : Column → Column → Column → Column → Type 0
-IsFirstOther a b c v = ((v ≢ origin) × ((v ≡ a) ⊎ (v ≡ b) ⊎ (v ≡ c))) ⊎ ((v ≡ origin) × (a ≡ origin) × (b ≡ origin) × (c ≡ origin))
+-- v is one of the three, and zero only where all of them are
+abbrev pub IsSomeOther : Column → Column → Column → Column → Type 0
+IsSomeOther a b c v = ((v ≢ origin) × ((v ≡ a) ⊎ (v ≡ b) ⊎ (v ≡ c))) ⊎ ((v ≡ origin) × (a ≡ origin) × (b ≡ origin) × (c ≡ origin))
 
 -- ---- as they are kept
 

@@ -3,7 +3,7 @@ ghost use Rattle.lattice_algebra.specs.Matrix.{origin};
 ghost use Rattle.lattice_algebra.specs.Operator.{AreWithin};
 ghost use Rattle.exact_ops.specs.Fields.{column_in};
 ghost use Rattle.parameter_forms.specs.declared.TheConstants.{MAX_MATRIX, MAX_MINOR};
-ghost use Rattle.parameter_forms.specs.Finding.{cross_product, IsFirstOther};
+ghost use Rattle.parameter_forms.specs.Finding.{cross_product, IsSomeOther};
 
 use exact_ops::Vector;
 
@@ -37,9 +37,9 @@ pub(crate) fn is_nothing(v: &Vector) -> bool
     v.x == 0 && v.y == 0 && v.z == 0
 }
 
-/// The first of three vectors that is not zero; zero where all are.
+/// One of three vectors, the first that is not zero; zero where all are.
 pub(crate) fn first_other(a: &Vector, b: &Vector, c: &Vector) -> Vector
-    ensures { IsFirstOther (column_in a.now) (column_in b.now) (column_in c.now)
+    ensures { IsSomeOther (column_in a.now) (column_in b.now) (column_in c.now)
         (column_in result) }
 {
     if !is_nothing(a) {

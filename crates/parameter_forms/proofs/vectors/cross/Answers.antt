@@ -5,4 +5,4 @@ use Rattle.parameter_forms.proofs.vectors.cross.Goals as goal
 
 pub returns-clause-value : goal.returns-clause-value
 unfolding cross_product
-returns-clause-value c = ?
+returns-clause-value c = search (rules, read)
