@@ -17,7 +17,7 @@ square_positive (pos zero) some = absurd (some refl)
 square_positive (pos (suc k)) some = above (suc k * suc k) (positive_product (suc k) (suc k) (omega arith) (omega arith))
 square_positive (negsuc k) some = above (suc k * suc k) (positive_product (suc k) (suc k) (omega arith) (omega arith))
 
-one_is_some : pos 1 ≢ pos 0
+pub one_is_some : pos 1 ≢ pos 0
 one_is_some e = omega (arith, ints, e)
 
 -- ---- what is along the image

@@ -1,9 +1,10 @@
 -- What is along the image of a matrix: all of space, a plane or a line, by its determinant, by the cross products of its columns, and
 -- by its columns.
-use Rattle.std.proofs.Common.{◌≡◌, ◌≢◌, ◌⊎◌, ◌++◌, ◌∷◌, [], ◌↔◌, ◌<◌, ℕ, zero, suc, ℤ, pos, negsuc, ◌+ℤ◌, ◌*ℤ◌, neg_ℤ, ◌≤ℤ◌, inl, inr, refl, ap, ap₂, sym, subst, ◌∙◌, ⊎_elim, arith}
+use Rattle.std.proofs.Common.{◌≡◌, ◌≢◌, ◌⊎◌, ◌++◌, ◌∷◌, [], ◌<◌, ◌≤◌, ℕ, zero, suc, ℤ, pos, negsuc, ◌+ℤ◌, ◌*ℤ◌, neg_ℤ, ◌≤ℤ◌, inl, inr, refl, ap, ap₂, sym, subst, ◌∙◌, ⊎_elim, arith}
 use Rattle.std.proofs.lemmas.Int.{ints}
 use lib.IntN.{*ℤ-zero, zero-*ℤ}
 use Rattle.lattice_algebra.specs.Matrix.{Matrix, Column, entries, coordinates, origin, identity, det, adjugate, ◌·ᶜ◌, ◌+ᶜ◌, times, sum_of_products}
+use Rattle.lattice_algebra.specs.Operator.{AreWithin}
 use Rattle.lattice_algebra.proofs.Ring.{Expr, var, con, ◌⊕◌, ◌⊖◌, ◌⊗◌, neg, ring}
 use Rattle.lattice_algebra.proofs.MatrixRing.{SymColumn, matrix_at, column_at, ◌·ˢᶜ◌, ◌+ˢᶜ◌, sym_times, sym_neg, sym_det, sym_adjugate, sym_origin, column_ring}
 use Rattle.lattice_algebra.proofs.Numbers.{cancel_some, zero_or_other}
@@ -11,8 +12,9 @@ use Rattle.lattice_algebra.proofs.Columns.{times-times, no_times, times_origin}
 use Rattle.lattice_algebra.proofs.Matrices.{·ᶜ-steps, x_step, y_step, z_step}
 use Rattle.parameter_forms.specs.Forms.{coordinate, nth_column, IsAlong, IsFree, IsCoefficientMatrix}
 use Rattle.parameter_forms.specs.Finding.{cross_product, row_times, IsPlane, IsLine, IsSomeOther}
-use Rattle.parameter_forms.proofs.Along.{image_along, origin_along, sum_along, along_of_times, some_product, square_positive}
+use Rattle.parameter_forms.proofs.Along.{image_along, origin_along, sum_along, along_of_times, some_product, square_positive, one_is_some, before_x, before_y, before_z}
 use Rattle.parameter_forms.proofs.Columns.{by_columns}
+use Rattle.parameter_forms.proofs.Planes.{column_of_free}
 
 abbrev sym_cross : SymColumn → SymColumn → SymColumn
 sym_cross a b = record { x = a.y ⊗ b.z ⊖ a.z ⊗ b.y; y = a.z ⊗ b.x ⊖ a.x ⊗ b.z; z = a.x ⊗ b.y ⊖ a.y ⊗ b.x }
@@ -204,3 +206,49 @@ module _ (m : Matrix) where
       along = subst (IsAlong m) (sym h.0) (origin_along m);
       multiples = λ w p. (p.number, pos 0, p.some, p.equal ∙ no_image h.1 h.2 h.3 p.from ∙ sym (no_times v));
     }
+
+-- ---- one of three vectors
+
+pub other_within : (n : ℕ) (a b c v : Column) → IsSomeOther a b c v → AreWithin n a.x a.y a.z → AreWithin n b.x b.y b.z → AreWithin n c.x c.y c.z → AreWithin n v.x v.y v.z
+other_within n a b c v (inl h) p q r = ⊎_elim (λ e. at a e p) (λ which. ⊎_elim (λ e. at b e q) (λ e. at c e r) which) h.1
+  where
+    at : (w : Column) → v ≡ w → AreWithin n w.x w.y w.z → AreWithin n v.x v.y v.z
+    at w e p = subst (λ (u : Column). AreWithin n u.x u.y u.z) (sym e) p
+other_within n a b c v (inr h) p q r = subst (λ (u : Column). AreWithin n u.x u.y u.z) (sym (h.0 ∙ sym h.1)) p
+
+pub other_of : (a b c v : Column) → IsSomeOther a b c v → v ≢ origin → (v ≡ a) ⊎ (v ≡ b) ⊎ (v ≡ c)
+other_of a b c v (inl h) some = h.1
+other_of a b c v (inr h) some = absurd (some h.0)
+
+pub none_of : (a b c v : Column) → IsSomeOther a b c v → v ≡ origin → (a ≡ origin) × (b ≡ origin) × (c ≡ origin)
+none_of a b c v (inl h) none = absurd (h.0 none)
+none_of a b c v (inr h) none = (h.1, h.2, h.3)
+
+pub same_three : (a b c d e f v : Column) → a ≡ d → b ≡ e → c ≡ f → IsSomeOther a b c v → IsSomeOther d e f v
+same_three a b c d e f v p q r h = subst (λ x. IsSomeOther d e x v) r (subst (λ x. IsSomeOther d x c v) q (subst (λ x. IsSomeOther x b c v) p h))
+
+-- ---- where every vector is along the image, all coordinates are free
+
+pub all_free : (m : Matrix) → ((v : Column) → IsAlong m v) → IsCoefficientMatrix m (pos 1) identity
+all_free m along zero l = column_of_free m (pos 1) 0 x_step (along x_step) refl one_is_some (before_x x_step) others
+  where
+    others : (i : ℕ) → IsFree m i → i ≢ 0 → coordinate x_step i ≡ pos 0
+    others zero f apart = absurd (apart refl)
+    others (suc zero) f apart = refl
+    others (suc (suc zero)) f apart = refl
+    others (suc (suc (suc i))) f apart = refl
+all_free m along (suc zero) l = column_of_free m (pos 1) 1 y_step (along y_step) refl one_is_some (before_y y_step refl) others
+  where
+    others : (i : ℕ) → IsFree m i → i ≢ 1 → coordinate y_step i ≡ pos 0
+    others zero f apart = refl
+    others (suc zero) f apart = absurd (apart refl)
+    others (suc (suc zero)) f apart = refl
+    others (suc (suc (suc i))) f apart = refl
+all_free m along (suc (suc zero)) l = column_of_free m (pos 1) 2 z_step (along z_step) refl one_is_some (before_z z_step refl refl) others
+  where
+    others : (i : ℕ) → IsFree m i → i ≢ 2 → coordinate z_step i ≡ pos 0
+    others zero f apart = refl
+    others (suc zero) f apart = refl
+    others (suc (suc zero)) f apart = absurd (apart refl)
+    others (suc (suc (suc i))) f apart = refl
+all_free m along (suc (suc (suc j))) l = absurd (omega (arith, l))
