@@ -3,6 +3,8 @@ pub mod Columns
 pub mod OneForm
 pub mod SamePoints
 pub mod Passed
+pub mod LowestTerms
+pub mod Reading
 pub mod Planes
 pub mod Lines
 pub mod Spanning

@@ -46,12 +46,34 @@ fn shift(c: &Coefficients, t: &Vector, over: u16) -> Vector
         +ᶜ neg_column (matrix_in c.now.b ·ᶜ column_in t.now)) }
 {
     let b = &c.b;
-    let cell = i64::from(UNIT) * i64::from(over) * i64::from(c.over);
+    let cell = cell_over(over, c.over);
     Vector {
-        x: difference(c.over, t.x, b.xx, b.xy, b.xz, t).rem_euclid(cell) as i32,
-        y: difference(c.over, t.y, b.yx, b.yy, b.yz, t).rem_euclid(cell) as i32,
-        z: difference(c.over, t.z, b.zx, b.zy, b.zz, t).rem_euclid(cell) as i32,
+        x: remainder(difference(c.over, t.x, b.xx, b.xy, b.xz, t), cell),
+        y: remainder(difference(c.over, t.y, b.yx, b.yy, b.yz, t), cell),
+        z: remainder(difference(c.over, t.z, b.zx, b.zy, b.zz, t), cell),
     }
+}
+
+/// How many parts a cell has over `over` times d.
+fn cell_over(over: u16, d: i32) -> i64
+    requires some { 0 < over }
+    requires few { over ≤ MAX_NUMBER }
+    requires positive { pos 0 <ℤ d }
+    requires small { unsigned_abs d ≤ MAX_MINOR }
+    ensures value { result ≡ pos (PARTS * over * unsigned_abs d) }
+    ensures positive { pos 0 <ℤ result }
+    ensures small { unsigned_abs result ≤ PARTS * MAX_OVER }
+{
+    i64::from(UNIT) * i64::from(over) * i64::from(d)
+}
+
+/// What is left of n when whole cells are taken off, from 0 on.
+fn remainder(n: i64, cell: i64) -> i32
+    requires positive { pos 0 <ℤ cell }
+    requires small { unsigned_abs cell ≤ PARTS * MAX_OVER }
+    ensures { result ≡ int_rem_euclid n cell }
+{
+    n.rem_euclid(cell) as i32
 }
 
 /// So many times a number, less the product of a row and a column.

@@ -77,6 +77,15 @@ fn lowest_terms(n: i32, d: u32) -> (i64, i64)
     ensures positive { pos 0 <ℤ result.1 }
     ensures reduced { IsGcd (unsigned_abs result.0) (unsigned_abs result.1) 1 }
 {
-    let common = greatest_common_divisor(u128::from(n.unsigned_abs()), u128::from(d)) as i64;
+    let common = common_divisor(n, d);
     (i64::from(n) / common, i64::from(d) / common)
+}
+
+/// The greatest number that divides both.
+fn common_divisor(n: i32, d: u32) -> i64
+    requires { 0 < d }
+    ensures positive { pos 0 <ℤ result }
+    ensures divisor { IsGcd (unsigned_abs n) d (unsigned_abs result) }
+{
+    greatest_common_divisor(u128::from(n.unsigned_abs()), u128::from(d)) as i64
 }

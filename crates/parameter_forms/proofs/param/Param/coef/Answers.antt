@@ -1,4 +1,17 @@
+use Rattle.std.proofs.Common.{◌≡◌, ℤ, pos, ◌*ℤ◌, ap, ap₂, subst, ◌∙◌, get_or, w32}
+use Rattle.lattice_algebra.proofs.Machine.{back, kept}
+use Rattle.exact_ops.specs.Fields.{matrix_in}
+use Rattle.parameter_forms.specs.declared.TheConstants.{MAX_OVER}
+use Rattle.parameter_forms.specs.Forms.{entry}
+use Rattle.parameter_forms.proofs.Reading.{entry_within}
 use Rattle.parameter_forms.proofs.param.Param.coef.Goals as goal
 
 pub returns-clause-value : goal.returns-clause-value
-returns-clause-value c = ?
+returns-clause-value c =
+    let i = c.args.i in
+    let j = c.args.j in
+    let b = matrix_in c.self.inside.b in
+    let found : get_or c.rows-rows.result c.from.result (pos 0) ≡ entry b i j = ap₂ (λ l k. get_or l k (pos 0)) c.rows-rows.ensures c.from.ensures in
+    subst (λ f. c.lowest_terms.result.0 *ℤ pos f.over ≡ entry f.b i j *ℤ c.lowest_terms.result.1) c.self.view_is
+    (c.lowest_terms.ensures.value ∙ ap (λ v. back w32 v *ℤ c.lowest_terms.result.1) found
+     ∙ ap (λ v. v *ℤ c.lowest_terms.result.1) (kept w32 MAX_OVER (entry b i j) (entry_within MAX_OVER b i j c.requires.row c.requires.column c.self.invariant.entries) tt))
