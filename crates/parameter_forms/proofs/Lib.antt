@@ -5,6 +5,7 @@ pub mod SamePoints
 pub mod Passed
 pub mod LowestTerms
 pub mod Reading
+pub mod Shifts
 pub mod Planes
 pub mod Lines
 pub mod Spanning
