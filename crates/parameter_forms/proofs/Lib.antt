@@ -6,6 +6,7 @@ pub mod Passed
 pub mod LowestTerms
 pub mod Reading
 pub mod Shifts
+pub mod Scaling
 pub mod Planes
 pub mod Lines
 pub mod Spanning

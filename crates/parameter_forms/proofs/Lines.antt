@@ -12,7 +12,7 @@ use Rattle.parameter_forms.proofs.Along.{AreZeroBefore, before_x, before_y, befo
 use Rattle.parameter_forms.proofs.Columns.{IsParameterColumn, origin_at}
 use Rattle.parameter_forms.proofs.Planes.{column_of_free}
 
-times_at : (k : ℤ) (v : Column) (i : ℕ) → coordinate (times k v) i ≡ k *ℤ coordinate v i
+pub times_at : (k : ℤ) (v : Column) (i : ℕ) → coordinate (times k v) i ≡ k *ℤ coordinate v i
 unfolding times
 times_at k v zero = refl
 times_at k v (suc zero) = refl

@@ -1,5 +1,5 @@
 //! The matrix B of the parameter form of a matrix: what is along its image is all of space, a plane, a line or nothing.
-ghost use Rattle.std.specs.Prelude.{◌≡◌, ◌≢◌, ◌≤◌, ◌*◌, ◌*ℤ◌, pos, unsigned_abs};
+ghost use Rattle.std.specs.Prelude.{◌≡◌, ◌≢◌, ◌≤◌, ◌*◌, ◌*ℤ◌, ◌<ℤ◌, pos, unsigned_abs};
 ghost use Rattle.lattice_algebra.specs.Matrix.{Matrix, origin, scaled};
 ghost use Rattle.lattice_algebra.specs.Operator.{AreWithin, HasEntriesWithin};
 ghost use Rattle.exact_ops.specs.Fields.{matrix_in, column_in};
@@ -109,6 +109,17 @@ fn line(v: &Vector) -> Coefficients
 }
 
 impl Coefficients {
+    /// The same matrix over a positive number.
+    pub(crate) fn over_positive(&self) -> Coefficients
+        requires { IsSmall self.now.b self.now.over }
+        ensures matrix { (m : Matrix) → IsCoefficientMatrix m self.now.over (matrix_in self.now.b)
+            → IsCoefficientMatrix m result.over (matrix_in result.b) }
+        ensures positive { pos 0 <ℤ result.over }
+        ensures small { IsSmall result.b result.over }
+    {
+        self.times(self.over.signum())
+    }
+
     /// The same matrix with k times its numbers.
     pub(crate) fn times(&self, k: i32) -> Coefficients
         requires few { unsigned_abs k ≤ MAX_NUMBER }

@@ -24,8 +24,7 @@ pub fn form_of(m: &Rotation, t: &Vector, over: u16) -> Param
     ensures same_points { (y : Point) → Lies PARTS over (pair_in m.now t.now) y
         ↔ Lies PARTS result.over (pair_of result) y }
 {
-    let any = coefficients_of(m);
-    let found = any.times(any.over.signum());
+    let found = coefficients_of(m).over_positive();
     let all = found.times(i32::from(over));
     Param {
         b: all.b,
