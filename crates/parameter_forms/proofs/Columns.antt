@@ -1,10 +1,10 @@
 -- What the columns of a coefficient matrix do.
-use Rattle.std.proofs.Common.{◌≡◌, ◌≢◌, ◌⊎◌, ◌++◌, ◌∷◌, [], ◌<◌, ℕ, zero, suc, ℤ, pos, ◌+ℤ◌, ◌*ℤ◌, neg_ℤ, subst, ⊎_elim, ap, sym, ◌∙◌, refl, arith}
+use Rattle.std.proofs.Common.{◌≡◌, ◌≢◌, ◌⊎◌, ◌++◌, ◌∷◌, [], ◌<◌, ℕ, zero, suc, ℤ, pos, ◌*ℤ◌, neg_ℤ, subst, ⊎_elim, ap, sym, ◌∙◌, refl, arith}
 use Rattle.std.proofs.lemmas.Int.{ints}
-use Rattle.lattice_algebra.specs.Matrix.{Matrix, Column, entries, coordinates, origin, sum_of_products, ◌·ᶜ◌, ◌+ᶜ◌, times, neg_column}
+use Rattle.lattice_algebra.specs.Matrix.{Matrix, Column, entries, coordinates, origin, sum_of_products, ◌·ᶜ◌, ◌+ᶜ◌, times}
 use Rattle.lattice_algebra.proofs.Ring.{known, var, con, ◌⊕◌, ◌⊗◌, neg, ring_from}
-use Rattle.lattice_algebra.proofs.MatrixRing.{matrix_at, column_at, ◌·ˢᶜ◌, ◌+ˢᶜ◌, sym_times, sym_neg, column_ring}
-use Rattle.parameter_forms.specs.Forms.{coordinate, entry, nth_column, IsAlong, IsFree, IsUnitVector, IsCoefficientMatrix}
+use Rattle.lattice_algebra.proofs.MatrixRing.{matrix_at, column_at, ◌·ˢᶜ◌, ◌+ˢᶜ◌, sym_times, column_ring}
+use Rattle.parameter_forms.specs.Forms.{coordinate, nth_column, IsAlong, IsFree, IsUnitVector, IsCoefficientMatrix}
 use Rattle.parameter_forms.proofs.Along.{origin_along, sum_along, nothing_free, sum_at, difference_none, times_one}
 
 abbrev pub IsParameterColumn : Matrix → ℤ → ℕ → Column → Type 0
@@ -57,7 +57,7 @@ module _ (m : Matrix) (d : ℤ) (b : Matrix) (is : IsCoefficientMatrix m d b) wh
       let at = λ (j : ℕ) (l : j < 3). column_along m d j (nth_column b j) (is j l) in
       subst (IsAlong m) (sym (by_columns b v))
       (sum_along m (pos 1) v.z (times v.x (nth_column b 0) +ᶜ times v.y (nth_column b 1)) (nth_column b 2)
-       (sum_along m v.x v.y (nth_column b 0) (nth_column b 1) (at 0 (omega arith)) (at 1 (omega arith))) (at 2 (omega arith)))
+      (sum_along m v.x v.y (nth_column b 0) (nth_column b 1) (at 0 (omega arith)) (at 1 (omega arith))) (at 2 (omega arith)))
 
   -- in a free coordinate it has d times the number that the vector has there
   row_of_free : (i : ℕ) → i < 3 → IsFree m i → (v : Column) → coordinate (b ·ᶜ v) i ≡ d *ℤ coordinate v i

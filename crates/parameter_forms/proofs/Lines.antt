@@ -50,8 +50,8 @@ module _ (m : Matrix) (v : Column) (line : IsLine m v) where
         let h = line.multiples w f.along in
         let left : j < p → ⊥ = λ l. f.some (none_of_none h.0 h.1 (coordinate w j) (coordinate v j) h.2 (at_each w f.along j) (before j l)) in
         let right : p < j → ⊥ = λ l.
-            let none = no_factor h.0 h.1 (coordinate w p) (coordinate v p) (at_each w f.along p) (f.before p l) some in
-            f.some (cancel_some h.0 (coordinate w j) (pos 0) h.2 (at_each w f.along j ∙ ap (λ e. e *ℤ coordinate v j) none ∙ zero-*ℤ (coordinate v j) ∙ sym (*ℤ-zero h.0))) in
+        let none = no_factor h.0 h.1 (coordinate w p) (coordinate v p) (at_each w f.along p) (f.before p l) some in
+        f.some (cancel_some h.0 (coordinate w j) (pos 0) h.2 (at_each w f.along j ∙ ap (λ e. e *ℤ coordinate v j) none ∙ zero-*ℤ (coordinate v j) ∙ sym (*ℤ-zero h.0))) in
         ⊎_elim left (λ h. ⊎_elim right (λ g. apart (omega (arith, h, g))) (cases_lt p j)) (cases_lt j p)
 
     -- a matrix that has the vector, over d, in that column, and nothing in the others

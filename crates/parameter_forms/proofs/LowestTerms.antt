@@ -64,8 +64,10 @@ in_cell p q s d above some least below e = (cancel_at_most d (pos 0) p above (at
   where
     at_least : (a b c : ℤ) → a ≡ pos 0 → b ≡ c → pos 0 ≤ℤ c → a ≤ℤ b
     at_least a b c p q r = omega (arith, ints, p, q)
+
     far : (a b x y : ℤ) → a ≤ℤ b → b ≡ x → y ≡ a -ℤ x -ℤ q → pos 0 ≤ℤ y → ⊥
     far a b x y l e f m = omega (arith, ints, e, f)
+
     too_far : q ≤ℤ p → ⊥
     too_far h =
         far (d *ℤ q) (d *ℤ p) (s *ℤ q) ((d -ℤ s -ℤ pos 1) *ℤ q) (more_at_most d q p (omega (arith, ints)) h) (*ℤ_comm d p ∙ e)

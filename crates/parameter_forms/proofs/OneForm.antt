@@ -1,5 +1,5 @@
 -- A pair has one parameter form.
-use Rattle.std.proofs.Common.{◌≡◌, ◌≢◌, ◌⊎◌, ◌++◌, ◌∷◌, [], ◌<◌, ◌*◌, ℕ, ℤ, pos, negsuc, ◌+ℤ◌, ◌*ℤ◌, neg_ℤ, subst, ⊎_elim, ap, ap₂, sym, ◌∙◌, arith}
+use Rattle.std.proofs.Common.{◌≡◌, ◌++◌, ◌∷◌, [], ◌<◌, ◌*◌, ℕ, ℤ, pos, negsuc, ◌+ℤ◌, ◌*ℤ◌, neg_ℤ, subst, ⊎_elim, ap, sym, ◌∙◌, arith}
 use Rattle.std.proofs.lemmas.Int.{ints}
 use Rattle.std.proofs.lemmas.Bool.{cases_eq}
 use Rattle.lattice_algebra.specs.Matrix.{Matrix, Column, entries, coordinates, origin, ◌·ᶜ◌, ◌+ᶜ◌, times, scaled, neg_column}
@@ -10,7 +10,7 @@ use Rattle.lattice_algebra.proofs.Numbers.{above, positive_product}
 use Rattle.lattice_algebra.proofs.Columns.{cancel_column, swap_times, times_origin}
 use Rattle.lattice_algebra.proofs.Remainders.{modulo_same, modulo_part}
 use Rattle.space_groups.specs.Keys.{Key}
-use Rattle.parameter_forms.specs.Forms.{coordinate, nth_column, IsFree, IsUnitVector, IsCoefficientMatrix, Form, IsParameterForm, IsSameForm}
+use Rattle.parameter_forms.specs.Forms.{coordinate, nth_column, IsUnitVector, IsCoefficientMatrix, Form, IsParameterForm, IsSameForm}
 use Rattle.parameter_forms.proofs.Along.{sum_along, nothing_free, sum_at, difference_none}
 use Rattle.parameter_forms.proofs.Columns.{IsParameterColumn}
 
@@ -27,10 +27,10 @@ module _ (m : Matrix) (d e : ℤ) (j : ℕ) (v w : Column) where
   both_free p q =
       difference_none d e v w
       (nothing_free m (times e v +ᶜ times (neg_ℤ d) w) (sum_along m e (neg_ℤ d) v w p.along q.along)
-       (λ i l free. sum_at d e v w i l (⊎_elim
-         (λ h. number_left d e (coordinate v i) (coordinate w i) (ap (coordinate v) h ∙ p.one) (ap (coordinate w) h ∙ q.one))
-         (λ h. no_numbers d e (coordinate v i) (coordinate w i) (p.others i free h) (q.others i free h))
-         (cases_eq i j))))
+      (λ i l free. sum_at d e v w i l (⊎_elim
+      (λ h. number_left d e (coordinate v i) (coordinate w i) (ap (coordinate v) h ∙ p.one) (ap (coordinate w) h ∙ q.one))
+      (λ h. no_numbers d e (coordinate v i) (coordinate w i) (p.others i free h) (q.others i free h))
+      (cases_eq i j))))
 
   both_none : v ≡ origin → w ≡ origin → times e v ≡ times d w
   both_none p q = ap (times e) p ∙ times_origin e ∙ sym (times_origin d) ∙ sym (ap (times d) q)

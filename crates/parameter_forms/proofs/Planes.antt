@@ -1,12 +1,12 @@
 -- The coefficients of a plane: all coordinates are free but the last one in which the normal is not 0.
-use Rattle.std.proofs.Common.{◌≡◌, ◌≢◌, ◌<◌, ◌∷◌, [], ℕ, zero, suc, ℤ, pos, ◌*ℤ◌, neg_ℤ, inl, inr, refl, ap, sym, ◌∙◌, arith}
+use Rattle.std.proofs.Common.{◌≡◌, ◌≢◌, ◌∷◌, [], ℕ, zero, suc, ℤ, pos, ◌*ℤ◌, neg_ℤ, inl, inr, refl, sym, ◌∙◌, arith}
 use Rattle.std.proofs.lemmas.Int.{ints}
 use lib.IntN.{*ℤ-zero}
 use Rattle.lattice_algebra.specs.Matrix.{Matrix, Column, origin, sum_of_products}
 use Rattle.lattice_algebra.specs.Operator.{AreWithin, HasEntriesWithin}
 use Rattle.lattice_algebra.proofs.Ring.{known, var, con, ◌⊕◌, ◌⊗◌, neg, ring, ring_from}
 use Rattle.lattice_algebra.proofs.Numbers.{cancel_some}
-use Rattle.parameter_forms.specs.Forms.{coordinate, IsAlong, IsFree, IsUnitVector, IsCoefficientMatrix}
+use Rattle.parameter_forms.specs.Forms.{coordinate, IsAlong, IsFree, IsCoefficientMatrix}
 use Rattle.parameter_forms.specs.Finding.{row_times, IsPlane}
 use Rattle.parameter_forms.proofs.Along.{AreZeroBefore, before_x, before_y, before_z}
 use Rattle.parameter_forms.proofs.Columns.{IsParameterColumn}

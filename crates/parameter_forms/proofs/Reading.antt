@@ -1,5 +1,5 @@
 -- Reading a form as it is kept.
-use Rattle.std.proofs.Common.{◌≡◌, ◌≢◌, ◌<◌, ◌≤◌, ◌↔◌, ℕ, zero, suc, Bool, true, false, not, eqb, ◌∷◌, [], ℤ, pos, ◌≤ℤ◌, ◌<ℤ◌, unsigned_abs, Some, slice_get, refl, ap, sym, ◌∙◌, ⊎_elim, to_z, of_z, w32, arith}
+use Rattle.std.proofs.Common.{◌≡◌, ◌≢◌, ◌<◌, ◌≤◌, ◌↔◌, ℕ, zero, suc, Bool, true, not, eqb, ◌∷◌, [], ℤ, pos, unsigned_abs, Some, slice_get, ap, sym, ◌∙◌, ⊎_elim, to_z, of_z, w32, arith}
 use Rattle.std.proofs.lemmas.Bool.{false≢true}
 use Rattle.std.proofs.lemmas.Bool.Decides.{eqb_tells}
 use Rattle.lattice_algebra.specs.Matrix.{Matrix, Column}

@@ -1,8 +1,8 @@
 -- The points of a parameter form are those of its row.
-use Rattle.std.proofs.Common.{◌≡◌, ◌≢◌, ◌++◌, ◌∷◌, [], ◌<◌, ◌*◌, ◌↔◌, ℕ, zero, suc, ℤ, pos, negsuc, ◌*ℤ◌, neg_ℤ, ◌<ℤ◌, ap, ap₂, sym, refl, ◌∙◌, arith}
+use Rattle.std.proofs.Common.{◌≡◌, ◌++◌, ◌∷◌, [], ◌<◌, ◌*◌, ◌↔◌, ℕ, ℤ, pos, negsuc, ◌*ℤ◌, neg_ℤ, ◌<ℤ◌, ap, ap₂, sym, refl, ◌∙◌, arith}
 use Rattle.std.proofs.lemmas.Int.{ints}
 use Rattle.lattice_algebra.specs.Matrix.{Matrix, Column, entries, coordinates, ◌·ᶜ◌, ◌+ᶜ◌, times, neg_column}
-use Rattle.lattice_algebra.specs.Point.{Point, IsPoint, ◌≈◌}
+use Rattle.lattice_algebra.specs.Point.{Point, ◌≈◌}
 use Rattle.lattice_algebra.proofs.Ring.{var, ◌⊗◌, neg, ring}
 use Rattle.lattice_algebra.proofs.MatrixRing.{matrix_at, column_at, ◌·ˢᶜ◌, ◌+ˢᶜ◌, sym_times, sym_neg, column_ring}
 use Rattle.lattice_algebra.proofs.Numbers.{above, positive_product}
@@ -10,7 +10,7 @@ use Rattle.lattice_algebra.proofs.Points.{positive_times}
 use Rattle.lattice_algebra.proofs.Columns.{times-times, swap_times, ·ᶜ-times}
 use Rattle.space_groups.specs.Keys.{Key}
 use Rattle.space_groups.specs.Rows.{Lies, row_point}
-use Rattle.parameter_forms.specs.Forms.{IsAlong, Form, pair_of, IsParameterForm}
+use Rattle.parameter_forms.specs.Forms.{Form, pair_of, IsParameterForm}
 use Rattle.parameter_forms.proofs.Along.{image_along, square_positive}
 use Rattle.parameter_forms.proofs.Columns.{made_along, leaves_along}
 
@@ -132,9 +132,9 @@ module _ (unit n : ℕ) (p : Key) (f : Form) (unit_some : 0 < unit) (some : 0 < 
         whole = l.whole +ᶜ is.whole;
         equal = same_point (i *ℤ u *ℤ pos n) y (row_point unit f.over (pair_of f) z l.whole) (row_point unit n p from (l.whole +ᶜ is.whole))
             (ap (λ a. times u a +ᶜ times from.d p.t +ᶜ times (u *ℤ pos n *ℤ from.d) (l.whole +ᶜ is.whole)) made
-             ∙ form_to_row u (pos n) d z.d i (f.b ·ᶜ z.n) (f.b ·ᶜ p.t) p.t is.whole l.whole
-             ∙ ap (λ a. times (i *ℤ u) (times (u *ℤ pos n) (f.b ·ᶜ z.n) +ᶜ times z.d a +ᶜ times (u *ℤ pos n *ℤ d *ℤ z.d) l.whole)) (sym is.shift)
-             ∙ taken_out u (pos n) d z.d i (f.b ·ᶜ z.n) f.s l.whole)
+            ∙ form_to_row u (pos n) d z.d i (f.b ·ᶜ z.n) (f.b ·ᶜ p.t) p.t is.whole l.whole
+            ∙ ap (λ a. times (i *ℤ u) (times (u *ℤ pos n) (f.b ·ᶜ z.n) +ᶜ times z.d a +ᶜ times (u *ℤ pos n *ℤ d *ℤ z.d) l.whole)) (sym is.shift)
+            ∙ taken_out u (pos n) d z.d i (f.b ·ᶜ z.n) f.s l.whole)
             (ring (u ∷ pos n ∷ d ∷ i ∷ z.d ∷ []) (var 0 ⊗ var 1 ⊗ (var 3 ⊗ var 2 ⊗ var 0 ⊗ var 4)) (var 3 ⊗ var 0 ⊗ var 1 ⊗ (var 0 ⊗ var 2 ⊗ var 4)) tt)
             l.equal;
       }

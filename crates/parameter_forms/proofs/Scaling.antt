@@ -1,17 +1,17 @@
 -- Coefficients with all their numbers multiplied, and the form that comes of them.
-use Rattle.std.proofs.Common.{◌≡◌, ◌≢◌, ◌≤◌, ◌<◌, ◌*◌, ◌++◌, ◌∷◌, [], ℕ, zero, suc, ℤ, pos, negsuc, ◌*ℤ◌, ◌<ℤ◌, unsigned_abs, min, inl, inr, ap, sym, subst, ◌∙◌, ⊎_elim, refl, arith, mul-le-mul}
+use Rattle.std.proofs.Common.{◌≡◌, ◌≤◌, ◌<◌, ◌*◌, ◌++◌, ◌∷◌, ℕ, zero, suc, ℤ, pos, negsuc, ◌*ℤ◌, unsigned_abs, min, inl, inr, ap, sym, subst, ◌∙◌, ⊎_elim, refl, arith, mul-le-mul}
 use Rattle.std.specs.Int.{int_signum}
 use Rattle.std.proofs.lemmas.Int.{ints, unsigned_abs-mul}
 use lib.IntN.{*ℤ-zero}
-use Rattle.lattice_algebra.specs.Matrix.{Matrix, Column, entries, coordinates, origin, ◌·ᶜ◌, ◌+ᶜ◌, times, scaled, neg_column}
-use Rattle.lattice_algebra.specs.Operator.{AreWithin, HasEntriesWithin, AreParts, modulo}
+use Rattle.lattice_algebra.specs.Matrix.{Matrix, Column, entries, coordinates, ◌·ᶜ◌, ◌+ᶜ◌, times, scaled, neg_column}
+use Rattle.lattice_algebra.specs.Operator.{HasEntriesWithin, AreParts, modulo}
 use Rattle.lattice_algebra.proofs.Ring.{var, ◌⊗◌, one_times}
 use Rattle.lattice_algebra.proofs.MatrixRing.{matrix_at, column_at, ◌·ˢᶜ◌, ◌+ˢᶜ◌, sym_times, sym_scaled, sym_neg, column_ring}
 use Rattle.lattice_algebra.proofs.Numbers.{positive_product}
 use Rattle.lattice_algebra.proofs.Columns.{swap_times, times_origin, ·ᶜ-times}
 use Rattle.lattice_algebra.proofs.Remainders.{modulo_is, modulo_parts}
 use Rattle.space_groups.specs.Keys.{Key}
-use Rattle.parameter_forms.specs.Forms.{coordinate, nth_column, IsAlong, IsFree, IsCoefficientMatrix, Form, IsParameterForm}
+use Rattle.parameter_forms.specs.Forms.{nth_column, IsAlong, IsCoefficientMatrix, IsParameterForm}
 use Rattle.parameter_forms.proofs.Columns.{IsParameterColumn}
 use Rattle.parameter_forms.proofs.Lines.{times_at}
 

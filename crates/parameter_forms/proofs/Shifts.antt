@@ -1,5 +1,5 @@
 -- The shift of a form as the machine finds it.
-use Rattle.std.proofs.Common.{◌≡◌, ◌≤◌, ◌*◌, ◌<◌, ℕ, ℤ, pos, ◌+ℤ◌, ◌*ℤ◌, neg_ℤ, ◌<ℤ◌, unsigned_abs, FitsSigned, ap, ap₂, sym, subst, ◌∙◌, to_z-of_z, w32, w64, arith}
+use Rattle.std.proofs.Common.{◌≡◌, ◌≤◌, ◌*◌, ℕ, ℤ, pos, ◌+ℤ◌, ◌*ℤ◌, neg_ℤ, ◌<ℤ◌, unsigned_abs, FitsSigned, ap, ap₂, sym, subst, ◌∙◌, to_z-of_z, w32, w64, arith}
 use Rattle.std.specs.Int.{int_rem_euclid}
 use Rattle.std.proofs.lemmas.Int.{ints}
 use Rattle.lattice_algebra.specs.Matrix.{Column, sum_of_products}
@@ -8,7 +8,7 @@ use Rattle.lattice_algebra.proofs.Machine.{back, kept}
 use Rattle.lattice_algebra.proofs.Numbers.{positive_is, positive_size}
 use Rattle.lattice_algebra.proofs.Remainders.{rem_is}
 use Rattle.exact_ops.specs.declared.TheConstants.{UNIT}
-use Rattle.parameter_forms.specs.declared.TheConstants.{MAX_NUMBER, MAX_MINOR, MAX_OVER}
+use Rattle.parameter_forms.specs.declared.TheConstants.{MAX_NUMBER, MAX_MINOR}
 
 -- ---- remainders
 

@@ -1,12 +1,12 @@
 -- What is along the image of a matrix: all of space, a plane or a line, by its determinant, by the cross products of its columns, and
 -- by its columns.
-use Rattle.std.proofs.Common.{◌≡◌, ◌≢◌, ◌⊎◌, ◌++◌, ◌∷◌, [], ◌<◌, ◌≤◌, ℕ, zero, suc, ℤ, pos, negsuc, ◌+ℤ◌, ◌*ℤ◌, neg_ℤ, ◌≤ℤ◌, inl, inr, refl, ap, ap₂, sym, subst, ◌∙◌, ⊎_elim, arith}
+use Rattle.std.proofs.Common.{◌≡◌, ◌≢◌, ◌⊎◌, ◌++◌, ◌∷◌, [], ℕ, zero, suc, ℤ, pos, negsuc, ◌+ℤ◌, ◌*ℤ◌, neg_ℤ, ◌≤ℤ◌, inl, inr, refl, ap, ap₂, sym, subst, ◌∙◌, ⊎_elim, arith}
 use Rattle.std.proofs.lemmas.Int.{ints}
 use lib.IntN.{*ℤ-zero, zero-*ℤ}
-use Rattle.lattice_algebra.specs.Matrix.{Matrix, Column, entries, coordinates, origin, identity, det, adjugate, ◌·ᶜ◌, ◌+ᶜ◌, times, sum_of_products}
+use Rattle.lattice_algebra.specs.Matrix.{Matrix, Column, entries, coordinates, origin, identity, det, adjugate, ◌·ᶜ◌, ◌+ᶜ◌, times}
 use Rattle.lattice_algebra.specs.Operator.{AreWithin}
 use Rattle.lattice_algebra.proofs.Ring.{Expr, var, con, ◌⊕◌, ◌⊖◌, ◌⊗◌, neg, ring}
-use Rattle.lattice_algebra.proofs.MatrixRing.{SymColumn, matrix_at, column_at, ◌·ˢᶜ◌, ◌+ˢᶜ◌, sym_times, sym_neg, sym_det, sym_adjugate, sym_origin, column_ring}
+use Rattle.lattice_algebra.proofs.MatrixRing.{SymColumn, matrix_at, column_at, ◌·ˢᶜ◌, ◌+ˢᶜ◌, sym_times, sym_det, sym_adjugate, sym_origin, column_ring}
 use Rattle.lattice_algebra.proofs.Numbers.{cancel_some, zero_or_other}
 use Rattle.lattice_algebra.proofs.Columns.{times-times, no_times, times_origin}
 use Rattle.lattice_algebra.proofs.Matrices.{·ᶜ-steps, x_step, y_step, z_step}
@@ -51,8 +51,10 @@ square_some v some e =
   where
     first : (a b c : ℤ) → pos 0 ≤ℤ a → pos 0 ≤ℤ b → pos 0 ≤ℤ c → a +ℤ b +ℤ c ≡ pos 0 → a ≡ pos 0
     first a b c p q r e = omega (arith, ints, e)
+
     second : (a b c : ℤ) → pos 0 ≤ℤ a → pos 0 ≤ℤ b → pos 0 ≤ℤ c → a +ℤ b +ℤ c ≡ pos 0 → b ≡ pos 0
     second a b c p q r e = omega (arith, ints, e)
+
     third : (a b c : ℤ) → pos 0 ≤ℤ a → pos 0 ≤ℤ b → pos 0 ≤ℤ c → a +ℤ b +ℤ c ≡ pos 0 → c ≡ pos 0
     third a b c p q r e = omega (arith, ints, e)
 
@@ -83,7 +85,7 @@ plane_of m a b p q some right v =
       (λ h. cancel_some h.number (row_times l v) (pos 0) h.some (sym (row_of_times l v h.number) ∙ ap (row_times l) h.equal ∙ right h.from ∙ sym (*ℤ-zero h.number))),
       (λ e. along_of_times m (row_times l l) v (square_some l some)
           (subst (IsAlong m) (sym (spanned a b v ∙ ap (λ k. times (row_times (cross_product v b) l) a +ᶜ times (row_times (cross_product a v) l) b +ᶜ times k l) e ∙ no_more _ l))
-           (sum_along m (row_times (cross_product v b) l) (row_times (cross_product a v) l) a b p q))),
+          (sum_along m (row_times (cross_product v b) l) (row_times (cross_product a v) l) a b p q))),
     )
 
 -- ---- a line
@@ -108,11 +110,14 @@ pub line_of : (m : Matrix) (v : Column) → IsAlong m v → v ≢ origin → ((z
 line_of m v along some parallel = record {
   along = along;
   multiples = λ w p.
-      let c = m ·ᶜ p.from in
-      (row_times v v *ℤ p.number, row_times v c, some_product (row_times v v) p.number (square_some v some) p.some,
-       sym (times-times (row_times v v) p.number w) ∙ ap (times (row_times v v)) p.equal ∙ along_itself v c
-       ∙ ap (λ u. times (row_times v c) v +ᶜ times (negsuc 0) u) (ap (cross_product v) (parallel p.from) ∙ cross_origin v)
-       ∙ nothing_more (times (row_times v c) v) (negsuc 0));
+      let c = m ·ᶜ p.from in (
+        row_times v v *ℤ p.number,
+        row_times v c,
+        some_product (row_times v v) p.number (square_some v some) p.some,
+        sym (times-times (row_times v v) p.number w) ∙ ap (times (row_times v v)) p.equal ∙ along_itself v c
+            ∙ ap (λ u. times (row_times v c) v +ᶜ times (negsuc 0) u) (ap (cross_product v) (parallel p.from) ∙ cross_origin v)
+            ∙ nothing_more (times (row_times v c) v) (negsuc 0),
+      );
 }
 
 -- ---- by the columns
@@ -164,9 +169,9 @@ module _ (m : Matrix) where
       ⊎_elim
       (λ e. subst (IsPlane m) (sym e) (plane_of m second third second_along third_along (λ h. some (e ∙ h)) (λ z. first_normal z ∙ zero z.x)))
       (λ which. ⊎_elim
-        (λ e. subst (IsPlane m) (sym e) (plane_of m third first third_along first_along (λ h. some (e ∙ h)) (λ z. second_normal z ∙ zero z.y)))
-        (λ e. subst (IsPlane m) (sym e) (plane_of m first second first_along second_along (λ h. some (e ∙ h)) (λ z. third_normal z ∙ zero z.z)))
-        which)
+      (λ e. subst (IsPlane m) (sym e) (plane_of m third first third_along first_along (λ h. some (e ∙ h)) (λ z. second_normal z ∙ zero z.y)))
+      (λ e. subst (IsPlane m) (sym e) (plane_of m first second first_along second_along (λ h. some (e ∙ h)) (λ z. third_normal z ∙ zero z.z)))
+      which)
       which
 
   -- ---- all cross products of the columns are 0
@@ -198,9 +203,9 @@ module _ (m : Matrix) where
         ⊎_elim
         (λ e. subst (IsLine m) (sym e) (line_of m first first_along (λ n. h.0 (e ∙ n)) (λ z. first_parallel z ∙ both_origin _ _ _ _ ab ca)))
         (λ which. ⊎_elim
-          (λ e. subst (IsLine m) (sym e) (line_of m second second_along (λ n. h.0 (e ∙ n)) (λ z. second_parallel z ∙ both_origin _ _ _ _ bc ab)))
-          (λ e. subst (IsLine m) (sym e) (line_of m third third_along (λ n. h.0 (e ∙ n)) (λ z. third_parallel z ∙ both_origin _ _ _ _ ca bc)))
-          which)
+        (λ e. subst (IsLine m) (sym e) (line_of m second second_along (λ n. h.0 (e ∙ n)) (λ z. second_parallel z ∙ both_origin _ _ _ _ bc ab)))
+        (λ e. subst (IsLine m) (sym e) (line_of m third third_along (λ n. h.0 (e ∙ n)) (λ z. third_parallel z ∙ both_origin _ _ _ _ ca bc)))
+        which)
         h.1
     line_found v (inr h) = record {
       along = subst (IsAlong m) (sym h.0) (origin_along m);

@@ -49,7 +49,7 @@ returns-then-not-is_nothing-clause-matrix c =
     let z = third_passed m c.requires in
     let l = column_in c.first_other-normal.result in
     let one = same_three _ _ _ (cross_product (second m) (third m)) (cross_product (third m) (first m)) (cross_product (first m) (second m)) l
-        (c.cross.ensures.value ∙ ap₂ cross_product y z) (c.cross-2.ensures.value ∙ ap₂ cross_product z x) (c.cross-3.ensures.value ∙ ap₂ cross_product x y) c.first_other-normal.ensures in
+    (c.cross.ensures.value ∙ ap₂ cross_product y z) (c.cross-2.ensures.value ∙ ap₂ cross_product z x) (c.cross-3.ensures.value ∙ ap₂ cross_product x y) c.first_other-normal.ensures in
     let some = λ (e : l ≡ origin). false≢true (sym c.if-not-is_nothing.true ∙ c.is_nothing.ensures.1 e) in
     let none = sym c.determinant.ensures.value ∙ sym (kept w64 (6 * MAX_ENTRY ^ 3) c.determinant.result c.determinant.ensures.size tt) ∙ ap (to_z w64) c.if-determinant-ne0.false in
     c.plane.ensures.matrix m (plane_found m l none some (other_of _ _ _ l one some))

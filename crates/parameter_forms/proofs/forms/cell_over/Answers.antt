@@ -1,4 +1,4 @@
-use Rattle.std.proofs.Common.{◌≡◌, ◌≤◌, ◌*◌, pos, ◌*ℤ◌, ◌<ℤ◌, unsigned_abs, ap, subst, sym, ◌∙◌, List, ℕ, ℤ, [], ◌∷◌, w64, mul-le-mul, le_refl, le_trans, arith}
+use Rattle.std.proofs.Common.{◌≡◌, ◌≤◌, ◌*◌, pos, ◌*ℤ◌, ◌<ℤ◌, unsigned_abs, ap, subst, sym, ◌∙◌, List, ℕ, ℤ, [], ◌∷◌, w64, mul-le-mul, le_refl}
 use Rattle.lattice_algebra.proofs.Ring.{Expr, var, ◌⊗◌, value}
 use Rattle.lattice_algebra.proofs.Machine.{IsWithin, computed, widened}
 use Rattle.lattice_algebra.proofs.Numbers.{above, positive_product, positive_size, positive_is}

@@ -1,5 +1,4 @@
-use Rattle.std.proofs.Common.{◌≡◌, ◌*◌, ◌+ℤ◌, ◌*ℤ◌, neg_ℤ, ap, ap₂, subst, sym, ◌∙◌, List, ℕ, ℤ, [], ◌∷◌, w64}
-use Rattle.lattice_algebra.specs.Matrix.{sum_of_products}
+use Rattle.std.proofs.Common.{◌≡◌, ◌*◌, ◌+ℤ◌, ◌*ℤ◌, neg_ℤ, ap, subst, sym, ◌∙◌, List, ℕ, ℤ, [], ◌∷◌, w64}
 use Rattle.lattice_algebra.proofs.Ring.{Expr, var, ◌⊖◌, ◌⊗◌, value}
 use Rattle.lattice_algebra.proofs.Machine.{IsWithin, fits, computed, widened}
 use Rattle.exact_ops.specs.declared.TheConstants.{UNIT}

@@ -1,5 +1,4 @@
-use Rattle.std.proofs.Common.{◌≡◌, ◌≤◌, ◌*◌, ℕ, ℤ, pos, ◌*ℤ◌, unsigned_abs, ap, ap₂, subst, sym, ◌∙◌, w32, mul-le-mul, arith}
-use Rattle.std.proofs.lemmas.Int.{ints}
+use Rattle.std.proofs.Common.{◌≡◌, ◌≤◌, ◌*◌, ℕ, pos, ◌*ℤ◌, unsigned_abs, ap, ap₂, subst, sym, ◌∙◌, w32, mul-le-mul}
 use Rattle.lattice_algebra.specs.Matrix.{Matrix, Column, scaled, times, neg_column, ◌·ᶜ◌, ◌+ᶜ◌}
 use Rattle.lattice_algebra.specs.Operator.{HasEntriesWithin, modulo}
 use Rattle.lattice_algebra.proofs.Machine.{back, kept}
@@ -8,8 +7,8 @@ use Rattle.exact_ops.specs.declared.TheConstants.{UNIT}
 use Rattle.exact_ops.specs.Fields.{matrix_in, column_in}
 use Rattle.exact_ops.proofs.Narrow.{some_parts}
 use Rattle.parameter_forms.specs.declared.TheConstants.{MAX_NUMBER, MAX_MINOR, MAX_OVER}
-use Rattle.parameter_forms.specs.Forms.{Form, IsCoefficientMatrix, IsParameterForm}
-use Rattle.parameter_forms.specs.Finding.{pair_in, form_in, IsKeptForm}
+use Rattle.parameter_forms.specs.Forms.{IsCoefficientMatrix, IsParameterForm}
+use Rattle.parameter_forms.specs.Finding.{pair_in, form_in}
 use Rattle.parameter_forms.proofs.Scaling.{form_found, scaled_within}
 use Rattle.parameter_forms.proofs.SamePoints.{same_points}
 use Rattle.parameter_forms.proofs.forms.form_of.Goals as goal

@@ -1,4 +1,4 @@
-use Rattle.std.proofs.Common.{◌≡◌, ◌<◌, ◌^◌, pos, ◌<ℤ◌, unsigned_abs, subst, sym, ap, ◌∙◌, arith, w64, to_z-of_z}
+use Rattle.std.proofs.Common.{◌<◌, ◌^◌, pos, ◌<ℤ◌, unsigned_abs, subst, sym, ap, ◌∙◌, arith, w64, to_z-of_z}
 use Rattle.std.specs.Int.{IsGcd}
 use Rattle.std.proofs.lemmas.Int.{to_z_pos, fits_signed_from_abs}
 use Rattle.lattice_algebra.proofs.Numbers.{above}

@@ -1,4 +1,4 @@
-use Rattle.std.proofs.Common.{◌≡◌, ◌<◌, ℤ, pos, ◌*ℤ◌, ◌<ℤ◌, unsigned_abs, int_div, subst, sym, ap, ap₂, ◌∙◌, arith, w64, FitsSigned, to_z, of_z, to_z-of_z}
+use Rattle.std.proofs.Common.{◌≡◌, ◌<◌, ℤ, pos, ◌*ℤ◌, ◌<ℤ◌, unsigned_abs, int_div, subst, sym, ap, ap₂, ◌∙◌, arith, w64, FitsSigned, of_z, to_z-of_z}
 use Rattle.std.specs.Int.{IsGcd}
 use Rattle.std.proofs.lemmas.Int.{ints, quot_is, quot_fits}
 use Rattle.lattice_algebra.proofs.Machine.{back}
@@ -46,4 +46,4 @@ returns-clause-positive c = subst (λ q. pos 0 <ℤ q) (sym (second c)) (lowest.
 pub returns-clause-reduced : goal.returns-clause-reduced
 returns-clause-reduced c =
     subst (λ p. IsGcd (unsigned_abs p) (unsigned_abs (back w64 (int_div (back w64 c.from-2.result) (back w64 (g c))))) 1) (sym (first c)) (subst (λ q. IsGcd (unsigned_abs (int_div c.args.n (g c))) (unsigned_abs q) 1) (sym (second c))
-     (lowest.in_lowest_terms c.args.n (pos c.args.d) (g c) (some c) c.common_divisor-common.ensures.positive (divisor c)))
+    (lowest.in_lowest_terms c.args.n (pos c.args.d) (g c) (some c) c.common_divisor-common.ensures.positive (divisor c)))

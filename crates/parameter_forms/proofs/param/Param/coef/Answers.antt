@@ -1,4 +1,4 @@
-use Rattle.std.proofs.Common.{◌≡◌, ℤ, pos, ◌*ℤ◌, ap, ap₂, subst, ◌∙◌, get_or, w32}
+use Rattle.std.proofs.Common.{◌≡◌, pos, ◌*ℤ◌, ap, ap₂, subst, ◌∙◌, get_or, w32}
 use Rattle.lattice_algebra.proofs.Machine.{back, kept}
 use Rattle.exact_ops.specs.Fields.{matrix_in}
 use Rattle.parameter_forms.specs.declared.TheConstants.{MAX_OVER}
@@ -14,4 +14,4 @@ returns-clause-value c =
     let found : get_or c.rows-rows.result c.from.result (pos 0) ≡ entry b i j = ap₂ (λ l k. get_or l k (pos 0)) c.rows-rows.ensures c.from.ensures in
     subst (λ f. c.lowest_terms.result.0 *ℤ pos f.over ≡ entry f.b i j *ℤ c.lowest_terms.result.1) c.self.view_is
     (c.lowest_terms.ensures.value ∙ ap (λ v. back w32 v *ℤ c.lowest_terms.result.1) found
-     ∙ ap (λ v. v *ℤ c.lowest_terms.result.1) (kept w32 MAX_OVER (entry b i j) (entry_within MAX_OVER b i j c.requires.row c.requires.column c.self.invariant.entries) tt))
+    ∙ ap (λ v. v *ℤ c.lowest_terms.result.1) (kept w32 MAX_OVER (entry b i j) (entry_within MAX_OVER b i j c.requires.row c.requires.column c.self.invariant.entries) tt))

@@ -1,7 +1,6 @@
-use Rattle.std.proofs.Common.{◌≡◌, pos, subst, sym, arith}
+use Rattle.std.proofs.Common.{pos, subst, sym, arith}
 use Rattle.std.proofs.lemmas.Int.{ints}
 use Rattle.exact_ops.specs.Fields.{matrix_in}
-use Rattle.parameter_forms.specs.Finding.{form_in}
 use Rattle.parameter_forms.specs.Forms.{IsParameterForm}
 use Rattle.parameter_forms.proofs.Reading.{tests_tell}
 use Rattle.parameter_forms.proofs.param.Param.free.Goals as goal

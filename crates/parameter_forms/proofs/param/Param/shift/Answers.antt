@@ -1,8 +1,8 @@
-use Rattle.std.proofs.Common.{◌≡◌, ◌*◌, ℕ, pos, ◌*ℤ◌, subst, rules}
+use Rattle.std.proofs.Common.{◌≡◌, ◌*◌, pos, ◌*ℤ◌, subst, rules}
 use Rattle.lattice_algebra.proofs.Numbers.{above, positive_product}
 use Rattle.exact_ops.specs.declared.TheConstants.{UNIT}
 use Rattle.exact_ops.proofs.Narrow.{some_parts}
-use Rattle.parameter_forms.specs.Forms.{coordinate, Form}
+use Rattle.parameter_forms.specs.Forms.{coordinate}
 use Rattle.parameter_forms.specs.Finding.{IsKeptForm}
 use Rattle.parameter_forms.proofs.Reading.{part_at}
 use Rattle.parameter_forms.proofs.LowestTerms.{in_cell}
