@@ -15,6 +15,7 @@ mod growth;
 mod keys;
 mod laws;
 pub mod numbers;
+mod params;
 pub mod parts;
 mod special;
 mod sub;
@@ -22,6 +23,7 @@ mod sub;
 pub use fixing::{average_at, exact_quotient, full, holds};
 pub use keys::{Sizes, column_sizes, key};
 pub use laws::one_key_of_conjugate_images;
+pub use params::param;
 pub use special::{Special, mean};
 pub use sub::Sub;
 
