@@ -10,3 +10,4 @@ pub mod Scaling
 pub mod Planes
 pub mod Lines
 pub mod Spanning
+mod Examples
