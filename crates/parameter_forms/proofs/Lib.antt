@@ -10,4 +10,5 @@ pub mod Scaling
 pub mod Planes
 pub mod Lines
 pub mod Spanning
+pub mod SomeForm
 mod Examples

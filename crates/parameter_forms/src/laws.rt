@@ -4,9 +4,11 @@ ghost use Rattle.space_groups.specs.Keys.{Key};
 ghost use Rattle.space_groups.specs.Rows.{Lies};
 ghost use Rattle.parameter_forms.specs.Forms.{Form, IsParameterForm, IsSameForm, pair_of};
 
-/// A pair of a matrix and a translation has one parameter form only.
+/// A pair of a matrix and a translation has a parameter form, and one only.
 pub fn one_form()
-    ensures { (unit n : ℕ) (p : Key) (f g : Form) → 0 < unit → 0 < n
+    ensures some { (unit n : ℕ) (p : Key) → 0 < unit → 0 < n
+        → (f : Form) × IsParameterForm unit n p f }
+    ensures one { (unit n : ℕ) (p : Key) (f g : Form) → 0 < unit → 0 < n
         → IsParameterForm unit n p f → IsParameterForm unit n p g → IsSameForm f g }
 {}
 
