@@ -33,6 +33,9 @@ pub use laws::{
     fraction_text_has_value, lines_are_read_or_bad, triplet_is_unique,
 };
 pub use lines::{LineFault, read_lines};
-pub use printing::{OVER_LIMIT, PARTS_LIMIT, print_move, print_triplet};
+pub use printing::{
+    COMPONENT_LIMIT, COMPONENT_ROOM, OVER_LIMIT, PARTS_LIMIT, print_component, print_move,
+    print_triplet,
+};
 pub use text::{InPlace, TEXT_ROOM, Text};
 pub use triplet::{LINE_LENGTH, read_triplet};
