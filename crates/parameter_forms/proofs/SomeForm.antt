@@ -73,12 +73,25 @@ some_coefficients m =
     (λ some. (pos 1, identity, one_is_some, all_free m (all_along m some)))
     (zero_or_other (det m))
 
+module _ (unit n : ℕ) (p : Key) where
+  abbrev c : HasCoefficients p.m
+  c = some_coefficients p.m
+
+  abbrev d : ℕ
+  d = unsigned_abs c.0
+
+  abbrev b : Matrix
+  b = scaled (int_signum c.0) c.1
+
+  pub found_form : Form
+  found_form = record { b = scaled (pos n) b; s = modulo (unit * n * d) (times (pos d) p.t +ᶜ neg_column (b ·ᶜ p.t)); over = n * d }
+
+  coefficients : IsCoefficientMatrix p.m (pos d) b
+  coefficients = subst (λ k. IsCoefficientMatrix p.m k b) (sign_times c.0) (scaled_coefficients p.m (int_signum c.0) c.0 c.1 c.3)
+
+  pub found_is : 0 < unit → 0 < n → IsParameterForm unit n p found_form
+  unfolding found_form
+  found_is unit_some some = form_found unit n d p b (modulo (unit * n * d) (times (pos d) p.t +ᶜ neg_column (b ·ᶜ p.t))) unit_some some (some_size c.0 c.2) coefficients refl
+
 pub some_form : (unit n : ℕ) (p : Key) → 0 < unit → 0 < n → (f : Form) × IsParameterForm unit n p f
-some_form unit n p unit_some some =
-    let c = some_coefficients p.m in
-    let sign = int_signum c.0 in
-    let b = scaled sign c.1 in
-    let d = unsigned_abs c.0 in
-    let is = subst (λ k. IsCoefficientMatrix p.m k b) (sign_times c.0) (scaled_coefficients p.m sign c.0 c.1 c.3) in
-    let s = modulo (unit * n * d) (times (pos d) p.t +ᶜ neg_column (b ·ᶜ p.t)) in
-    (record { b = scaled (pos n) b; s = s; over = n * d }, form_found unit n d p b s unit_some some (some_size c.0 c.2) is refl)
+some_form unit n p unit_some some = (found_form unit n p, found_is unit n p unit_some some)

@@ -1,7 +1,9 @@
 ghost use Rattle.std.specs.Prelude.{◌≡◌, ◌≤◌, ◌<◌, ◌↔◌, ◌*◌, ◌*ℤ◌, ℕ, pos, ◌<ℤ◌, ◌≤ℤ◌, unsigned_abs, true, Some, slice_get};
 ghost use Rattle.std.specs.Int.{IsGcd};
 ghost use Rattle.exact_ops.specs.declared.TheConstants.{UNIT as PARTS};
+ghost use Rattle.lattice_algebra.specs.Matrix.{entries, coordinates};
 ghost use Rattle.space_groups.specs.Keys.{Key};
+ghost use Rattle.parameter_forms.specs.Finding.{IsKeptForm};
 ghost use Rattle.parameter_forms.specs.Forms.{coordinate, entry, IsFree, IsParameterForm};
 
 use exact_ops::{Rotation, UNIT, Vector, greatest_common_divisor};
@@ -34,6 +36,31 @@ impl Model for Param {
 }
 
 impl Param {
+    /// The matrix B, row by row, over `over`.
+    pub fn b(&self) -> [i32; 9]
+        ensures value { result ≡ entries self.now.b }
+        // What is true of every form.
+        ensures kept { IsKeptForm self.now }
+    {
+        self.b.rows()
+    }
+
+    /// The shift s in parts of a cell, over `over`. Each number is at least 0 and below `UNIT * over`.
+    pub fn s(&self) -> [i32; 3]
+        ensures value { result ≡ coordinates self.now.s }
+        ensures kept { IsKeptForm self.now }
+    {
+        self.s.numbers()
+    }
+
+    /// The number over which the form stands.
+    pub fn over(&self) -> u32
+        ensures value { result ≡ self.now.over }
+        ensures kept { IsKeptForm self.now }
+    {
+        self.over
+    }
+
     /// Which coordinates are free, in the order x, y, z.
     pub fn free(&self) -> [bool; 3]
         ensures { (unit n : ℕ) (p : Key) (j : ℕ) → IsParameterForm unit n p self.now

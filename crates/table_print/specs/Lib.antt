@@ -4,6 +4,7 @@ pub mod Sites
 pub mod Classes
 pub mod Grids
 pub mod Rows
+pub mod Params
 pub mod Parts
 pub mod Table
 pub mod Sample

@@ -10,6 +10,7 @@ mod classes;
 mod grids;
 mod laws;
 mod operators;
+mod params;
 mod parts;
 mod rows;
 mod sample;
@@ -24,6 +25,7 @@ pub use laws::{
     one_type_line,
 };
 pub use operators::print_ops;
+pub use params::print_params;
 pub use rows::{print_row, print_rows};
 pub use sample::print_sample;
 pub use sites::print_site;
