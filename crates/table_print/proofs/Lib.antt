@@ -8,6 +8,7 @@ pub mod GridTexts
 pub mod GridPages
 mod RowSizes
 mod RowPages
+pub mod FormTexts
 mod PartTexts
 pub mod TablePages
 mod RowLines

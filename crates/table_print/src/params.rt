@@ -1,5 +1,6 @@
 ghost use Rattle.std.specs.Prelude.{◌≡◌, ◌<◌, ◌≤◌, ◌+◌, ◌++◌, Some, length, slice_get};
 ghost use Rattle.exact_ops.specs.declared.TheConstants.{UNIT};
+ghost use Rattle.group_closure.specs.GroupList.{IsGroup};
 ghost use Rattle.space_groups.specs.Keys as keys;
 ghost use Rattle.space_groups.specs.Rows as shown;
 ghost use Rattle.space_groups.specs.Rows.{IsRowList};
@@ -47,6 +48,8 @@ fn put_params<K: Sink>(
     ensures { GathersText K.seen (IsParamsText group.now rows.now)
         sink.old sink.new page.old page.new result }
 {
+    // By this call it is known that the members are a group.
+    let _ = group.len();
     for k in 0..rows.len() {
         make_room(PARAM_LINE, page, sink)?;
         push_line(group, rows, k, page);
@@ -56,6 +59,7 @@ fn put_params<K: Sink>(
 
 /// Adds the line of the row at place k, counted from 0.
 fn push_line(group: &Group, rows: &Rows, k: usize, page: &mut Page)
+    requires group { IsGroup group.now }
     requires list { IsRowList UNIT group.now rows.now }
     requires within { k < length rows.now }
     requires room { length page.old + PARAM_LINE ≤ PAGE_ROOM }
