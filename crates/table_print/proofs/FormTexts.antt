@@ -1,8 +1,7 @@
 -- The line of a row in free coordinates, piece by piece.
-use Rattle.std.proofs.Common.{◌≡◌, ◌≤◌, ◌<◌, ◌*◌, ◌+◌, ℕ, List, [], ◌∷◌, ◌++◌, ℤ, pos, unsigned_abs, slice_index_or, decimal, Result, Ok, Err, sym, ap, ap₂, ◌∙◌, append_assoc, to_z, of_z, w32, w64, arith}
+use Rattle.std.proofs.Common.{◌≡◌, ◌≤◌, ◌<◌, ◌*◌, ◌+◌, ℕ, List, [], ◌∷◌, ◌++◌, ℤ, pos, unsigned_abs, slice_index_or, decimal, Result, Ok, Err, refl, ap, ap₂, ◌∙◌, append_assoc, w32, w64, arith}
 use Rattle.std.proofs.lemmas.Int.{ints}
-use Rattle.lattice_algebra.specs.Matrix.{entries, coordinates}
-use Rattle.lattice_algebra.specs.Operator.{Operator, AreWithin, AreParts, IsPart}
+use Rattle.lattice_algebra.specs.Operator.{Operator, AreWithin, IsPart}
 use Rattle.lattice_algebra.proofs.Machine.{back, kept}
 use Rattle.exact_ops.specs.declared.TheConstants.{UNIT}
 use Rattle.exact_ops.proofs.Narrow.{some_parts}
@@ -19,7 +18,7 @@ use Rattle.page_print.specs.Printing.{GathersText}
 use Rattle.triplet_text.specs.Bytes.{comma, space, line_feed}
 use Rattle.triplet_text.specs.Printing.{component_text, with_commas, affine_text, IsSameMap}
 use Rattle.table_print.specs.Rows.{lines_from}
-use Rattle.table_print.specs.Params.{form_text, shown_form, GivesForms, param_line, IsParamsText}
+use Rattle.table_print.specs.Params.{form_text, GivesForms, param_line}
 
 -- ---- pieces
 
@@ -68,6 +67,14 @@ same_form_text one_text n p f g some is also =
 
 pub found_gives : (n : ℕ) → 0 < n → GivesForms n (found_form UNIT n)
 found_gives n some p = found_is UNIT n p some_parts some
+
+module _ (one_text : (d e : ℕ) (f g : Operator) → 0 < d → 0 < e → IsSameMap d f e g → affine_text d f ≡ affine_text e g) (n : ℕ) (some : 0 < n) (form other : Key → Form) (gives : GivesForms n form) (also : GivesForms n other) where
+  same_line : (k : ℕ) (row : Row) → param_line form k row ≡ param_line other k row
+  same_line k row = ap (λ t. (decimal (k + 1) ++ space ∷ decimal row.mult ++ space ∷ t) ++ line_feed ∷ []) (same_form_text one_text n row.key (form row.key) (other row.key) some (gives row.key) (also row.key))
+
+  pub same_lines : (k : ℕ) (rows : List Row) → lines_from (param_line form) k rows ≡ lines_from (param_line other) k rows
+  same_lines k [] = refl
+  same_lines k (row ∷ rest) = ap₂ (λ (s t : List ℕ). s ++ t) (same_line k row) (same_lines (k + 1) rest)
 
 -- such a text was gathered, so one that is more was
 module _ {K : Type 0} (sink : SeenSink K) (A B : List ℕ → Type 0) (more : (text : List ℕ) → A text → B text) (old new : K) (page now : List ℕ) where

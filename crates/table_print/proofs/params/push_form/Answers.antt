@@ -1,7 +1,4 @@
 use Rattle.std.proofs.Common.{◌∙◌, ℕ, pos, slice_index_or, ap}
-use Rattle.lattice_algebra.specs.Matrix.{entries, coordinates}
-use Rattle.parameter_forms.specs.Forms.{Form}
-use Rattle.triplet_text.specs.Printing.{component_text}
 use Rattle.table_print.proofs.FormTexts.{form_pushed, component_read, shifts_within}
 use Rattle.table_print.proofs.params.push_form.Goals as goal
 

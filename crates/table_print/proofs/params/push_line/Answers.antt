@@ -1,9 +1,9 @@
-use Rattle.std.proofs.Common.{◌≡◌, ◌<◌, ◌++◌, ◌∙◌, length, Some, slice_get, sym, ap, subst}
+use Rattle.std.proofs.Common.{◌≡◌, ◌<◌, ◌++◌, ◌∙◌, length, Some, sym, ap}
 use Rattle.std.proofs.lemmas.Option.{slice_get_within}
 use Rattle.lattice_algebra.specs.Operator.{identity_operator}
 use Rattle.space_groups.specs.Rows.{Row}
 use Rattle.wyckoff_rows.specs.Shown.{row_in}
-use Rattle.table_print.specs.Params.{form_text, shown_form, param_line}
+use Rattle.table_print.specs.Params.{param_line}
 use Rattle.table_print.proofs.FormTexts.{line_pushed, same_form_text}
 use Rattle.table_print.proofs.RowSizes.{in_cell_at}
 use Rattle.table_print.proofs.params.push_line.Goals as goal

@@ -1,4 +1,4 @@
-use Rattle.std.proofs.Common.{Err, Ok, ap, ◌∙◌, ◌<◌, length, get_or, arith, List, ℕ}
+use Rattle.std.proofs.Common.{Err, Ok, ap, ◌∙◌, length, get_or, arith, List, ℕ}
 use Rattle.std.proofs.lemmas.Option.{slice_get-get_or, slice_get_within}
 use Rattle.std.proofs.lemmas.Result.{err_from_is_err_and}
 use Rattle.lattice_algebra.specs.Operator.{Operator, identity_operator}
