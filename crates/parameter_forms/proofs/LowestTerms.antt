@@ -1,7 +1,7 @@
 -- A fraction divided by the greatest common divisor of its numbers.
-use Rattle.std.proofs.Common.{◌≡◌, ◌*◌, ◌^◌, ◌<◌, ℕ, ℤ, pos, ◌*ℤ◌, ◌-ℤ◌, neg_ℤ, ◌<ℤ◌, ◌≤ℤ◌, unsigned_abs, int_div, ap, sym, subst, ◌∙◌, ◌∷◌, [], arith}
+use Rattle.std.proofs.Common.{◌≡◌, ◌*◌, ◌/◌, ◌^◌, ◌<◌, ◌≤◌, ℕ, zero, suc, ℤ, pos, ◌*ℤ◌, ◌-ℤ◌, neg_ℤ, ◌<ℤ◌, ◌≤ℤ◌, unsigned_abs, int_div, ap, sym, subst, ◌∙◌, ◌∷◌, [], arith}
 use Rattle.std.specs.Int.{IsGcd, ◌∣◌}
-use Rattle.std.proofs.Math.Nat.{one-dvd, pos_of_dvd_of_pos, mul-dvd-mul_right, dvd_of_mul-dvd-mul_right}
+use Rattle.std.proofs.Math.Nat.{one-dvd, dvd-mul_right, mul-div_cancel', pos_of_dvd_of_pos, mul-dvd-mul_right, dvd_of_mul-dvd-mul_right}
 use Rattle.std.proofs.lemmas.Nat.Gcd.{le_of_dvd}
 use Rattle.std.proofs.lemmas.Int.{ints, unsigned_abs-mul, by_lt_z}
 use lib.IntN.{*ℤ_comm, *ℤ-zero}
@@ -25,6 +25,16 @@ positive_factor d g q some above e = by_lt_z (pos 0) q (λ l. l) (λ h. absurd (
   where
     below : (a b : ℤ) → b ≡ neg_ℤ a → pos 0 <ℤ a → pos 0 ≤ℤ b → ⊥
     below a b e p q = omega (arith, ints, e)
+
+factor_small : (q j k e : ℕ) → 0 < k → 0 < k * j → q * (k * j) ≡ k * e → q ≤ e
+factor_small q zero k e k_some some same = absurd (omega arith)
+factor_small q (suc j) k e k_some some same =
+    let t : k * (q * suc j) ≡ k * e = omega (arith, same) in
+    let u : q * suc j ≡ e = cancelled (q * suc j) e t in
+    omega (arith, u)
+  where
+    cancelled : (a b : ℕ) → k * a ≡ k * b → a ≡ b
+    cancelled a b h = grind arith
 
 module _ (n d g : ℤ) (above : pos 0 <ℤ d) (some : pos 0 <ℤ g) (is : IsGcd (unsigned_abs n) (unsigned_abs d) (unsigned_abs g)) where
   exact : (x : ℤ) → unsigned_abs g ∣ unsigned_abs x → x ≡ int_div x g *ℤ g
@@ -50,6 +60,15 @@ module _ (n d g : ℤ) (above : pos 0 <ℤ d) (some : pos 0 <ℤ g) (is : IsGcd 
   in_lowest_terms =
       coprime (unsigned_abs p) (unsigned_abs q) (unsigned_abs g) (unsigned_abs n) (unsigned_abs d) (positive_size g some)
       (sym (ap unsigned_abs (exact n is.0) ∙ unsigned_abs-mul p g)) (sym (ap unsigned_abs (exact d is.1) ∙ unsigned_abs-mul q g)) is
+
+  -- where both are multiples of k, the denominator is at most what k leaves of d
+  pub is_small : (k e : ℕ) (m : ℤ) → 0 < k → n ≡ pos k *ℤ m → d ≡ pos (k * e) → q ≤ℤ pos e
+  is_small k e m k_some en ed =
+      let common : k ∣ unsigned_abs g = is.2 k (subst (λ x. k ∣ unsigned_abs x) (sym en) (subst (λ x. k ∣ x) (sym (unsigned_abs-mul (pos k) m)) (dvd-mul_right k (unsigned_abs m)))) (subst (λ x. k ∣ unsigned_abs x) (sym ed) (dvd-mul_right k e)) in
+      let whole : unsigned_abs q * unsigned_abs g ≡ k * e = sym (ap unsigned_abs (exact d is.1) ∙ unsigned_abs-mul q g) ∙ ap unsigned_abs ed in
+      let some_common : 0 < unsigned_abs g = positive_size g some in
+      let l = factor_small (unsigned_abs q) (unsigned_abs g / k) k e k_some (subst (λ x. 0 < x) (sym (mul-div_cancel' k common)) some_common) (ap (λ x. unsigned_abs q * x) (mul-div_cancel' k common) ∙ whole) in
+      omega (arith, ints, l)
 
 -- ---- in the machine
 

@@ -11,7 +11,7 @@ use Rattle.lattice_algebra.proofs.Numbers.{positive_product}
 use Rattle.lattice_algebra.proofs.Columns.{swap_times, times_origin, ·ᶜ-times}
 use Rattle.lattice_algebra.proofs.Remainders.{modulo_is, modulo_parts}
 use Rattle.space_groups.specs.Keys.{Key}
-use Rattle.parameter_forms.specs.Forms.{nth_column, IsAlong, IsCoefficientMatrix, IsParameterForm}
+use Rattle.parameter_forms.specs.Forms.{entry, nth_column, IsAlong, IsCoefficientMatrix, IsParameterForm}
 use Rattle.parameter_forms.proofs.Columns.{IsParameterColumn}
 use Rattle.parameter_forms.proofs.Lines.{times_at}
 
@@ -33,6 +33,20 @@ scaled_column k b zero l = refl
 scaled_column k b (suc zero) l = refl
 scaled_column k b (suc (suc zero)) l = refl
 scaled_column k b (suc (suc (suc j))) l = absurd (omega (arith, l))
+
+pub scaled_entry : (k : ℤ) (b : Matrix) (i j : ℕ) → i < 3 → j < 3 → entry (scaled k b) i j ≡ k *ℤ entry b i j
+unfolding scaled
+scaled_entry k b zero zero p q = refl
+scaled_entry k b zero (suc zero) p q = refl
+scaled_entry k b zero (suc (suc zero)) p q = refl
+scaled_entry k b (suc zero) zero p q = refl
+scaled_entry k b (suc zero) (suc zero) p q = refl
+scaled_entry k b (suc zero) (suc (suc zero)) p q = refl
+scaled_entry k b (suc (suc zero)) zero p q = refl
+scaled_entry k b (suc (suc zero)) (suc zero) p q = refl
+scaled_entry k b (suc (suc zero)) (suc (suc zero)) p q = refl
+scaled_entry k b (suc (suc (suc i))) j p q = absurd (omega (arith, p))
+scaled_entry k b i (suc (suc (suc j))) p q = absurd (omega (arith, q))
 
 pub scaled_coefficients : (m : Matrix) (k d : ℤ) (b : Matrix) → IsCoefficientMatrix m d b → IsCoefficientMatrix m (k *ℤ d) (scaled k b)
 scaled_coefficients m k d b is j l = subst (IsParameterColumn m (k *ℤ d) j) (sym (scaled_column k b j l)) (times_column m k d j (nth_column b j) (is j l))

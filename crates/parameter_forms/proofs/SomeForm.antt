@@ -1,7 +1,6 @@
 -- Every pair has a parameter form.
-use Rattle.std.proofs.Common.{◌≡◌, ◌≢◌, ◌⊎◌, ◌<◌, ◌*◌, inl, inr, ℕ, ℤ, pos, ◌*ℤ◌, unsigned_abs, ap, subst, refl, ⊎_elim, arith}
+use Rattle.std.proofs.Common.{◌≡◌, ◌≢◌, ◌⊎◌, ◌<◌, ◌*◌, inl, inr, ℕ, ℤ, pos, unsigned_abs, ap, subst, refl, ⊎_elim}
 use Rattle.std.specs.Int.{int_signum}
-use Rattle.std.proofs.lemmas.Int.{ints}
 use Rattle.lattice_algebra.specs.Matrix.{Matrix, Column, origin, identity, det, times, neg_column, scaled, ◌·ᶜ◌, ◌+ᶜ◌}
 use Rattle.lattice_algebra.specs.Operator.{modulo}
 use Rattle.lattice_algebra.proofs.Numbers.{zero_or_other, some_size}

@@ -1,6 +1,6 @@
 -- How the coefficients are found from what is along the image of a matrix, and how a form is kept.
-use Rattle.std.specs.Prelude.{◌≡◌, ◌≢◌, ◌≤◌, ◌⊎◌, ◌↔◌, ◌*◌, ℕ, ℤ, pos, ◌-ℤ◌, ◌*ℤ◌, unsigned_abs}
-use Rattle.lattice_algebra.specs.Matrix.{Matrix, Column, sum_of_products, origin, times}
+use Rattle.std.specs.Prelude.{◌≡◌, ◌≢◌, ◌<◌, ◌≤◌, ◌⊎◌, ◌↔◌, ◌*◌, ℕ, ℤ, pos, ◌-ℤ◌, ◌*ℤ◌, unsigned_abs}
+use Rattle.lattice_algebra.specs.Matrix.{Matrix, Column, sum_of_products, origin, times, scaled}
 use Rattle.lattice_algebra.specs.Operator.{AreParts, HasEntriesWithin}
 use Rattle.space_groups.specs.Keys.{Key}
 use Rattle.exact_ops.specs.declared.TheConstants.{UNIT}
@@ -46,9 +46,20 @@ pair_in m t = record { m = matrix_in m; t = column_in t }
 abbrev pub form_in : Rotation → Vector → ℕ → Form
 form_in b s over = record { b = matrix_in b; s = column_in s; over = over }
 
+-- the matrix stands over a number of at most MAX_MINOR too: all its numbers, and that over which it stands, are so many times theirs
+pub record IsMultipleOfSmall (f : Form) : Type 0 where
+  pub number : ℕ
+  pub some : 0 < number
+  pub matrix : Matrix
+  pub over : ℕ
+  pub small : over ≤ MAX_MINOR
+  pub entries : f.b ≡ scaled (pos number) matrix
+  pub product : f.over ≡ number * over
+
 -- the numbers of a form fit
 pub record IsKeptForm (f : Form) : Type 0 where
   pub some : 1 ≤ f.over
   pub over : f.over ≤ MAX_OVER
   pub entries : HasEntriesWithin MAX_OVER f.b
   pub in_cell : AreParts (UNIT * f.over) f.s
+  pub multiple : IsMultipleOfSmall f

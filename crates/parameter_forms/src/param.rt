@@ -1,8 +1,9 @@
-ghost use Rattle.std.specs.Prelude.{◌≡◌, ◌≤◌, ◌<◌, ◌↔◌, ◌*◌, ◌*ℤ◌, ℕ, pos, ◌<ℤ◌, ◌≤ℤ◌, unsigned_abs, true, Some, slice_get};
+ghost use Rattle.std.specs.Prelude.{◌≡◌, ◌≤◌, ◌<◌, ◌↔◌, ◌*◌, ◌*ℤ◌, ℕ, ℤ, pos, ◌<ℤ◌, ◌≤ℤ◌, unsigned_abs, true, Some, slice_get};
 ghost use Rattle.std.specs.Int.{IsGcd};
 ghost use Rattle.exact_ops.specs.declared.TheConstants.{UNIT as PARTS};
 ghost use Rattle.lattice_algebra.specs.Matrix.{entries, coordinates};
 ghost use Rattle.space_groups.specs.Keys.{Key};
+ghost use Rattle.parameter_forms.specs.declared.TheConstants.{MAX_MINOR, MAX_OVER};
 ghost use Rattle.parameter_forms.specs.Finding.{IsKeptForm};
 ghost use Rattle.parameter_forms.specs.Forms.{coordinate, entry, IsFree, IsParameterForm};
 
@@ -77,6 +78,7 @@ impl Param {
         ensures value { result.0 *ℤ pos self.now.over ≡ entry self.now.b i j *ℤ result.1 }
         ensures positive { pos 0 <ℤ result.1 }
         ensures reduced { IsGcd (unsigned_abs result.0) (unsigned_abs result.1) 1 }
+        ensures small { result.1 ≤ℤ pos MAX_MINOR }
     {
         let rows = self.b.rows();
         lowest_terms(rows[usize::from(3 * i + j)], self.over)
@@ -91,6 +93,7 @@ impl Param {
         ensures positive { pos 0 <ℤ result.1 }
         ensures reduced { IsGcd (unsigned_abs result.0) (unsigned_abs result.1) 1 }
         ensures in_cell { (pos 0 ≤ℤ result.0) × (result.0 <ℤ result.1) }
+        ensures small { result.1 ≤ℤ pos (PARTS * MAX_OVER) }
     {
         let numbers = self.s.numbers();
         lowest_terms(numbers[usize::from(i)], UNIT * self.over)
@@ -103,6 +106,8 @@ fn lowest_terms(n: i32, d: u32) -> (i64, i64)
     ensures value { result.0 *ℤ pos d ≡ n *ℤ result.1 }
     ensures positive { pos 0 <ℤ result.1 }
     ensures reduced { IsGcd (unsigned_abs result.0) (unsigned_abs result.1) 1 }
+    ensures small { (k e : ℕ) (m : ℤ) → 0 < k → n ≡ pos k *ℤ m → d ≡ k * e
+        → result.1 ≤ℤ pos e }
 {
     let common = common_divisor(n, d);
     (i64::from(n) / common, i64::from(d) / common)

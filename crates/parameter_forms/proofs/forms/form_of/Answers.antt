@@ -64,6 +64,7 @@ invariant_of-result c = record {
   over = subst (λ k. k ≤ MAX_OVER) (sym (over_is c)) (product_small c);
   entries = subst (HasEntriesWithin MAX_OVER) (sym (matrix_is c)) (scaled_within MAX_NUMBER MAX_MINOR (pos (n c)) (b c) c.requires.few c.over_positive-found.ensures.small.entries);
   in_cell = (found c).in_cell;
+  multiple = record { number = n c; some = c.requires.some; matrix = b c; over = d c; small = c.over_positive-found.ensures.small.over_size; entries = matrix_is c; product = over_is c };
 }
 
 pub returns-clause-form : goal.returns-clause-form

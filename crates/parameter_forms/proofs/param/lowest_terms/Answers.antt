@@ -1,4 +1,4 @@
-use Rattle.std.proofs.Common.{◌≡◌, ◌<◌, ℤ, pos, ◌*ℤ◌, ◌<ℤ◌, unsigned_abs, int_div, subst, sym, ap, ap₂, ◌∙◌, arith, w64, FitsSigned, of_z, to_z-of_z}
+use Rattle.std.proofs.Common.{◌≡◌, ◌<◌, ℤ, pos, ◌*ℤ◌, ◌<ℤ◌, ◌≤ℤ◌, unsigned_abs, int_div, subst, sym, ap, ap₂, ◌∙◌, arith, w64, FitsSigned, of_z, to_z-of_z}
 use Rattle.std.specs.Int.{IsGcd}
 use Rattle.std.proofs.lemmas.Int.{ints, quot_is, quot_fits}
 use Rattle.lattice_algebra.proofs.Machine.{back}
@@ -47,3 +47,7 @@ pub returns-clause-reduced : goal.returns-clause-reduced
 returns-clause-reduced c =
     subst (λ p. IsGcd (unsigned_abs p) (unsigned_abs (back w64 (int_div (back w64 c.from-2.result) (back w64 (g c))))) 1) (sym (first c)) (subst (λ q. IsGcd (unsigned_abs (int_div c.args.n (g c))) (unsigned_abs q) 1) (sym (second c))
     (lowest.in_lowest_terms c.args.n (pos c.args.d) (g c) (some c) c.common_divisor-common.ensures.positive (divisor c)))
+
+pub returns-clause-small : goal.returns-clause-small
+returns-clause-small c = λ k e m k_some en ed.
+    subst (λ q. q ≤ℤ pos e) (sym (second c)) (lowest.is_small c.args.n (pos c.args.d) (g c) (some c) c.common_divisor-common.ensures.positive (divisor c) k e m k_some en (ap pos ed))
