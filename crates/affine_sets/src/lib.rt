@@ -7,7 +7,8 @@
 //! exactly where no rational point is fixed by all of them; `near` moves a group near the origin, and its whole shifts are then
 //! small; `key` is the first of all conjugates of an average, whole shifts of any size included, and averages over full groups
 //! have one key exactly where an element carries one image onto the other (`one_key_of_conjugate_images`). Every `Sub` is a
-//! finite group in the order of its operators, all of which fix a common rational point.
+//! finite group in the order of its operators, all of which fix a common rational point. `param` gives a key in free
+//! coordinates, with exactly the points of its row.
 #![tactic(auto)]
 
 mod fixing;
