@@ -42,3 +42,7 @@ pub record IsKeyInCell (k : KeyOver) : Type 0 where
   pub within : k.over ≤ MAX_OPERATORS
   pub matrix : HasEntriesWithin (2 * k.over) k.key.m
   pub in_cell : AreParts (UNIT * k.over) k.key.t
+
+-- the key over so many members
+abbrev pub key_over : ℕ → Key → KeyOver
+key_over n p = record { key = p; over = n }

@@ -7,7 +7,8 @@
 //! exactly where no rational point is fixed by all of them; `near` moves a group near the origin, and its whole shifts are then
 //! small; `key` is the first of all conjugates of an average, whole shifts of any size included, and averages over full groups
 //! have one key exactly where an element carries one image onto the other (`one_key_of_conjugate_images`). Every `Sub` is a
-//! finite group in the order of its operators, all of which fix a common rational point.
+//! finite group in the order of its operators, all of which fix a common rational point. `param` gives a key in free
+//! coordinates, with exactly the points of its row.
 #![tactic(auto)]
 
 mod fixing;
@@ -15,6 +16,7 @@ mod growth;
 mod keys;
 mod laws;
 pub mod numbers;
+mod params;
 pub mod parts;
 mod special;
 mod sub;
@@ -22,6 +24,7 @@ mod sub;
 pub use fixing::{average_at, exact_quotient, full, holds};
 pub use keys::{Sizes, column_sizes, key};
 pub use laws::one_key_of_conjugate_images;
+pub use params::param;
 pub use special::{Special, mean};
 pub use sub::Sub;
 

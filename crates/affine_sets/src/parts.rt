@@ -5,6 +5,7 @@ ghost use Rattle.lattice_algebra.specs.Matrix.{entries, coordinates};
 ghost use Rattle.affine_sets.specs.Averages.{IsKeyInCell};
 
 use exact_ops::{Rotation, Vector};
+pub use parameter_forms::Param;
 use std::marker::Model;
 
 /// A matrix over `over` and a translation in parts of a cell over `over`, each number of which is from 0 to below

@@ -7,6 +7,7 @@ pub mod GridTexts
 pub mod GridPages
 mod RowSizes
 mod RowPages
+pub mod FormTexts
 pub mod TablePages
 mod RowLines
 mod SampleTexts

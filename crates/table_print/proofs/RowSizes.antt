@@ -15,6 +15,7 @@ use Rattle.group_closure.specs.GroupList.{IsGroup}
 use Rattle.space_groups.specs.Averages.{Block}
 use Rattle.space_groups.specs.Keys.{Key, key_of}
 use Rattle.space_groups.specs.Rows.{Row, IsRowList}
+use Rattle.affine_sets.specs.Averages.{IsKeyInCell, key_over}
 use Rattle.affine_sets.proofs.ConjugateSizes.{sub_within}
 use Rattle.affine_sets.proofs.SitesOfPoints.{site_sub}
 use Rattle.triplet_text.specs.declared.printing.TheConstants.{PARTS_LIMIT}
@@ -33,6 +34,10 @@ key_printable n a some few h = record {
   parts = parts_printable n _ few (modulo_parts (UNIT * n) (positive_product UNIT n some_parts some) a.t);
 }
 
+key_in_cell : (n : ℕ) (a : Block) → 0 < n → n ≤ MAX_OPERATORS → HasEntriesWithin (2 * n) a.m → IsKeyInCell (key_over n (key_of UNIT n a))
+unfolding key_of
+key_in_cell n a some few h = record { some = some; within = few; matrix = h; in_cell = modulo_parts (UNIT * n) (positive_product UNIT n some_parts some) a.t }
+
 pub row_printable : (members : List Operator) → IsGroup members → (rows : List Row) → IsRowList UNIT members rows → (row : Row) → Contains rows row → IsPrintable (length members) (numbers_of_key row.key)
 row_printable members g rows list row c =
     let x = (list.each row).0 c in
@@ -45,3 +50,15 @@ row_printable members g rows list row c =
 
 pub printable_at : (members : List Operator) → IsGroup members → (rows : List Row) → IsRowList UNIT members rows → (k : ℕ) (row : Row) → slice_get rows k ≡ Some row → IsPrintable (length members) (numbers_of_key row.key)
 printable_at members g rows list k row is = row_printable members g rows list row (k, slice_get_within rows k row is, get_or_from_slice_get rows k row row is)
+
+pub row_in_cell : (members : List Operator) → IsGroup members → (rows : List Row) → IsRowList UNIT members rows → (row : Row) → Contains rows row → IsKeyInCell (key_over (length members) row.key)
+row_in_cell members g rows list row c =
+    let x = (list.each row).0 c in
+    let k = x.2.key in
+    let s = k.is_special in
+    let sub = site_sub members g (image UNIT k.by x.0) (IsPoint-image UNIT some_parts k.by x.0 x.1) s.site s.is_site in
+    let some : 0 < length members = slice_get_within members 0 identity_operator g.first in
+    subst (λ (p : Key). IsKeyInCell (key_over (length members) p)) k.gives (key_in_cell (length members) k.special some g.within (sub_within members g s.site k.special sub s.mean))
+
+pub in_cell_at : (members : List Operator) → IsGroup members → (rows : List Row) → IsRowList UNIT members rows → (k : ℕ) (row : Row) → slice_get rows k ≡ Some row → IsKeyInCell (key_over (length members) row.key)
+in_cell_at members g rows list k row is = row_in_cell members g rows list row (k, slice_get_within rows k row is, get_or_from_slice_get rows k row row is)

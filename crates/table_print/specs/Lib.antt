@@ -4,5 +4,6 @@ pub mod Sites
 pub mod Classes
 pub mod Grids
 pub mod Rows
+pub mod Params
 pub mod Table
 pub mod Sample

@@ -15,9 +15,10 @@ ghost use Rattle.table_print.specs.Sites.{IsSiteText};
 ghost use Rattle.table_print.specs.Classes.{IsIndexText, IsBoxText};
 ghost use Rattle.table_print.specs.Grids.{IsGridText};
 ghost use Rattle.table_print.specs.Rows.{numbers_of_key, row_line};
+ghost use Rattle.table_print.specs.Params.{IsParamsText};
 ghost use Rattle.table_print.specs.Table.{IsTableText};
 
-use triplet_text::affine_text_has_one_map;
+use triplet_text::{affine_map_has_one_text, affine_text_has_one_map};
 
 /// Each member of a group has a line of its type, and no operator has two.
 pub fn one_type_line()
@@ -72,6 +73,16 @@ pub fn one_row_of_line()
         × IsSameMap n (numbers_of_key r.key) m (numbers_of_key s.key) }
 {
     affine_text_has_one_map();
+}
+
+/// Rows have a text of the command `params`, and one only.
+pub fn one_params_text()
+    ensures some { (members : List Operator) (rows : List Row) → IsGroup members
+        → (text : List ℕ) × IsParamsText members rows text }
+    ensures one { (members : List Operator) (rows : List Row) (s t : List ℕ) → IsGroup members
+        → IsParamsText members rows s → IsParamsText members rows t → s ≡ t }
+{
+    affine_map_has_one_text();
 }
 
 /// Rows and a box have a text of the command `table`, and one only.

@@ -3,13 +3,14 @@
 //! Proved: each `print_..` writes the text whole, or a prefix of it with its cause; the walk that `print_classes`, `print_orbits`
 //! or `print_table` was lent stays one. Each member of a group has one line of its type (`one_type_line`); a site and an orbit
 //! have one text (`one_site_text`), and so have an index (`one_index_text`), a box (`one_box_text`), a grid that a group keeps
-//! (`one_grid_text`), and rows with a box (`one_table_text`). The line of a row has the row's numbers (`one_row_of_line`).
+//! (`one_grid_text`), rows in free coordinates (`one_params_text`), and rows with a box (`one_table_text`). The line of a row has the row's numbers (`one_row_of_line`).
 #![tactic(auto)]
 
 mod classes;
 mod grids;
 mod laws;
 mod operators;
+mod params;
 mod parts;
 mod rows;
 mod sample;
@@ -20,10 +21,11 @@ mod types;
 pub use classes::{print_classes, print_index};
 pub use grids::print_orbits;
 pub use laws::{
-    one_box_text, one_grid_text, one_index_text, one_row_of_line, one_site_text, one_table_text,
-    one_type_line,
+    one_box_text, one_grid_text, one_index_text, one_params_text, one_row_of_line, one_site_text,
+    one_table_text, one_type_line,
 };
 pub use operators::print_ops;
+pub use params::print_params;
 pub use rows::{print_row, print_rows};
 pub use sample::print_sample;
 pub use sites::print_site;

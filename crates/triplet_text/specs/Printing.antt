@@ -1,5 +1,5 @@
 -- The text of an affine map, and of an operator: three components with commas between them.
-use Rattle.std.specs.Prelude.{◌≡◌, ◌<◌, ◌≤◌, ◌==◌, if◌then◌else◌, ℕ, zero, suc, ◌*◌, ℤ, pos, negsuc, List, [], ◌∷◌, ◌++◌, fold}
+use Rattle.std.specs.Prelude.{◌≡◌, ◌<◌, ◌≤◌, ◌==◌, if◌then◌else◌, ℕ, zero, suc, ◌*◌, ℤ, pos, negsuc, unsigned_abs, List, [], ◌∷◌, ◌++◌, fold}
 use Rattle.lattice_algebra.specs.Matrix.{scaled, times}
 use Rattle.lattice_algebra.specs.Operator.{Operator, HasEntriesWithin, AreWithin}
 use Rattle.lattice_algebra.specs.Map.{Map}
@@ -46,6 +46,10 @@ component_text d x y z parts = or_zero (terms_text d x y z parts)
 
 abbrev pub with_commas : List ℕ → List ℕ → List ℕ → List ℕ
 with_commas a b c = a ++ comma ∷ b ++ comma ∷ c
+
+-- the size of each of three numbers is below a limit
+abbrev pub AreBelow : ℕ → ℤ → ℤ → ℤ → Type 0
+AreBelow limit x y z = (unsigned_abs x < limit) × (unsigned_abs y < limit) × (unsigned_abs z < limit)
 
 -- the map with the matrix f.w over d, and the translation f.t over UNIT * d
 abbrev pub affine_text : ℕ → Operator → List ℕ

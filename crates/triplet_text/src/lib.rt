@@ -39,6 +39,9 @@ pub use laws::{
 pub use lines::{LineFault, cut_line, is_skipped_line, read_lines};
 pub use pieces::{is_blank_byte, without_blanks_before};
 pub use point::read_point;
-pub use printing::{OVER_LIMIT, PARTS_LIMIT, print_move, print_triplet};
+pub use printing::{
+    COMPONENT_LIMIT, COMPONENT_ROOM, OVER_LIMIT, PARTS_LIMIT, print_component, print_move,
+    print_triplet,
+};
 pub use text::{InPlace, TEXT_ROOM, Text};
 pub use triplet::{LINE_LENGTH, read_triplet};
