@@ -1,1 +1,4 @@
+pub mod Groups
+pub mod Held
+pub mod Questions
 pub mod Texts

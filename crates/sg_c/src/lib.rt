@@ -8,5 +8,15 @@
 #![tactic(auto)]
 
 mod answer;
+mod group;
+mod handle;
+mod loose;
+mod questions;
 mod slice_source;
 mod words;
+
+/// The status of a call that asks for what is out of range, as that of words that are no command in range.
+pub const OUT_OF_RANGE: u8 = 2;
+
+/// The status of a question about a handle that holds no group.
+pub const EMPTY: u8 = 11;
