@@ -1,10 +1,8 @@
 -- The machine value of a `Handle`, and what it owns. Assumes `Logic`.
 use Rattle.std.proofs.Common.{◌≡◌, ℕ, List, [], ◌∷◌, ◌++◌, refl, subst}
-use lib.Dec.{T}
 use seplogic.Ra.Ura.{Ura}
 use mir.Syntax.{impl, tnil, dnil}
-use mir.Val.{Val, vstruct, of_list, has_ty, WT}
-use mathlib.Core.Bool.{◌&&◌, true}
+use mir.Val.{Val, vstruct, of_list, has_ty}
 use mir.Raw.{raw as bare}
 use base.Logic.{never, via, fst∗, snd∗, guard_i}
 use types.Logic.{Logic, sem}

@@ -1,4 +1,3 @@
-use Rattle.std.proofs.Common.{rules}
 use Rattle.std.specs.Str.{IsUtf8}
 use Rattle.triplet_text.proofs.LineSteps.{lines_cut}
 use Rattle.sg_c.proofs.WordSteps.{one_breaks}

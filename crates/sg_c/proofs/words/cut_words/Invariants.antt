@@ -1,4 +1,4 @@
-use Rattle.std.proofs.Common.{◌≡◌, ◌++◌, List, ℕ}
+use Rattle.std.proofs.Common.{◌≡◌, ◌++◌}
 use Rattle.sg_cli.specs.Words.{texts}
 use Rattle.triplet_text.specs.Lines.{lines_of}
 use Rattle.triplet_text.proofs.LineSteps.{lines_left, left}

@@ -1,4 +1,4 @@
-use Rattle.std.proofs.Common.{ℕ, Result, Ok, Err, OnErr, OnOk, IsOk, arith, refl, ◌≡◌}
+use Rattle.std.proofs.Common.{ℕ, Result, Ok, Err, OnErr, OnOk, IsOk, arith, refl}
 use Rattle.sg_io.specs.declared.source.Failed.{Failed}
 use Rattle.sg_c.proofs.slice_source.SliceSourceSource.TheImpl.Goals as goal
 
