@@ -214,19 +214,20 @@ class Questions(unittest.TestCase):
                 sg.answer(["ops"], text)
             self.assertEqual(str(asked.exception), told)
 
-    def test_another_thread(self):
-        caught = []
+    def test_other_threads(self):
+        group = self.groups[0]
+        wanted = group.reflection(1, 2, 3)
+        found = []
 
         def ask():
-            try:
-                self.groups[0].order
-            except RuntimeError as error:
-                caught.append(error)
+            found.append(all(group.reflection(1, 2, 3) == wanted for _ in range(1000)))
 
-        thread = threading.Thread(target=ask)
-        thread.start()
-        thread.join()
-        self.assertEqual(len(caught), 1)
+        threads = [threading.Thread(target=ask) for _ in range(8)]
+        for thread in threads:
+            thread.start()
+        for thread in threads:
+            thread.join()
+        self.assertEqual(found, [True] * 8)
 
 
 if __name__ == "__main__":

@@ -19,9 +19,10 @@
  * For each call, which nothing checks:
  *  - No pointer is NULL, also where its length is 0. It points to as many bytes, or to the one value, as the call is told.
  *  - What a call may write to is apart from everything else that it is given.
- *  - An sg_group is SG_NO_GROUP at first, and after that nothing but these functions writes to it. It is not copied, or the
- *    copy is used in place of the first. At most one call at a time is given it, and all of them in one thread. Different
- *    groups, and sg_answer, may be used in as many threads as you like.
+ *  - An sg_group is SG_NO_GROUP at first, and after that nothing but these functions writes to it. Of an sg_group and its
+ *    copies one is used. It may be used in any thread, but one call at a time is given it, also of those that only ask, and one
+ *    ends before the next begins: by a lock, or by the start or the end of a thread. Different groups, and sg_answer, may be used
+ *    in as many threads at once as you like.
  *  - malloc, realloc and free are those of one allocator, and align as those of the C library do. No call is made from a
  *    signal handler, or in the child that a process with several threads has forked.
  *

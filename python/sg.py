@@ -180,11 +180,11 @@ def _fraction(value: Coordinate) -> _Fraction:
 
 class Group:
     """The group that operators generate modulo the translations of the lattice, from an input of one triplet a line, or from a
-    list of triplets. It may be used in the thread that made it, and in no other."""
+    list of triplets. It may be used in any thread; a lock lets one call at a time ask it."""
 
     def __init__(self, input: Union[str, bytes, Iterable[str]]):
         self._handle = _Handle()
-        self._thread = threading.get_ident()
+        self._lock = threading.Lock()
         if not isinstance(input, (str, bytes)):
             input = "\n".join(input)
         self.input = _bytes(input)
@@ -194,14 +194,13 @@ class Group:
             raise Error(status, _closing_text(status, line.value))
 
     def __del__(self):
-        # Memory that malloc gave may be freed in any thread.
+        # Nobody else has the group any more. At the end of the program the library may be gone first.
         if getattr(self, "_handle", None) is not None and _library is not None:
             _library.sg_group_free(byref(self._handle))
 
-    def _held(self):
-        if threading.get_ident() != self._thread:
-            raise RuntimeError("a group is used in a thread that did not make it")
-        return byref(self._handle)
+    def _call(self, function, *arguments):
+        with self._lock:
+            return function(byref(self._handle), *arguments)
 
     def _ask(self, words: Iterable[str]) -> str:
         return answer(words, self.input)
@@ -209,7 +208,7 @@ class Group:
     @property
     def order(self) -> int:
         """How many operators it has: 1 to 192."""
-        return _library.sg_group_order(self._held())
+        return self._call(_library.sg_group_order)
 
     def __len__(self) -> int:
         return self.order
@@ -221,7 +220,7 @@ class Group:
 
     def _operator(self, place: int) -> Operator:
         op = _Operator()
-        _check(_library.sg_group_operator(self._held(), place, byref(op)), f"no operator at place {place}")
+        _check(self._call(_library.sg_group_operator, place, byref(op)), f"no operator at place {place}")
         w, t = op.w, op.t
         return Operator(tuple(tuple(w[i : i + 3]) for i in (0, 3, 6)), tuple(Fraction(part, PARTS) for part in t))
 
@@ -241,7 +240,7 @@ class Group:
         """What symmetry says of a reflection, whose indices are at most 10,000 in size."""
         marks = _Reflection()
         index = [_in_range(number, 32) for number in (h, k, l)]
-        status = _library.sg_reflection(self._held(), *index, friedel, byref(marks))
+        status = self._call(_library.sg_reflection, *index, friedel, byref(marks))
         _check(status, f"reflection {h} {k} {l} is out of range")
         return Reflection(marks.class_size, marks.fixers, Mark(marks.mark), marks.phase)
 
@@ -249,7 +248,7 @@ class Group:
         """The site symmetry of the point with these coordinates, which are exact: whole numbers, fractions, or their texts."""
         point = _Point(_fraction(x), _fraction(y), _fraction(z))
         site = _Site()
-        _check(_library.sg_site(self._held(), byref(point), byref(site)), f"point {x} {y} {z} is out of range")
+        _check(self._call(_library.sg_site, byref(point), byref(site)), f"point {x} {y} {z} is out of range")
         return Site(site.order, site.multiplicity)
 
 

@@ -24,6 +24,9 @@ impl Model for Handle {
     ghost also_owns = { λ h. held h.alloc h.at h.group };
 }
 
+// What it holds is its own, so it may go to another thread.
+unsafe impl Send for Handle {}
+
 impl Handle {
     /// A handle that holds no group.
     fn empty(alloc: Global) -> Handle
