@@ -1,0 +1,4 @@
+mod Cuts
+mod WordSteps
+mod Values
+mod Handles

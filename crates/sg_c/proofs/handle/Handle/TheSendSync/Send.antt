@@ -1,0 +1,31 @@
+-- A handle may be used in another thread, one call at a time: what it owns is a box, and what frees the box is the same there.
+use Rattle.std.proofs.Common.{List}
+use mir.Raw.{raw}
+use base.Shift.{Keyless}
+use denote.RattleType.{RattleType}
+use denote.Memory.{lone}
+use denote.RawPtr.{Ptr}
+use denote.Builtin.{RawPtr}
+use denote.Param.Send.{IsSend, AllSend, owning_send, struct_send, sendable}
+use denote.Struct.Owning.{shape, fields, to}
+use denote.Struct.Struct.{exits_of}
+use Rattle.core.specs.declared.option.Option.{Option}
+use Rattle.core.specs.declared.option.Option.TheVariants.{None, Some}
+use Rattle.std.specs.declared.alloc.Global.{Global}
+use Rattle.std.proofs.alloc.Global.TheSendSync as heap
+use Rattle.std.proofs.Crossing.{frees}
+use Rattle.std_alloc.proofs.SendSync.{lies, quiet}
+use Rattle.lattice_algebra.specs.Operator.{Operator}
+use Rattle.group_closure.specs.contracts.group.Group as group
+use Rattle.group_closure.proofs.group.Group.TheSendSync.{the_send as group_send}
+use Rattle.sg_c.specs.Held.{held}
+use Rattle.sg_c.specs.contracts.handle.Handle.{the_type, the_row}
+
+held_keyless : (alloc : Global) (at : Ptr) (members : Option (List Operator)) → Keyless (held alloc at members)
+held_keyless alloc at (Some members) = (lies group.the_row group_send at members, frees.frees alloc (raw (lone (group.the_row).mir)) at)
+held_keyless alloc at None = tt
+
+pub send : IsSend the_row
+send =
+    let all : AllSend (fields the_type) = (search sendable, (heap.the_field_send, tt)) in
+    owning_send the_type all (λ h. held_keyless h.alloc h.at h.group) (λ k. quiet (to the_type) (exits_of k (fields the_type)) ((struct_send (shape the_type) all).leaving k))

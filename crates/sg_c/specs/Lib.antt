@@ -1,0 +1,4 @@
+pub mod Groups
+pub mod Held
+pub mod Questions
+pub mod Texts

@@ -1,0 +1,22 @@
+//! The engine as a library for C: `sg_answer` gives the answer of the command `sg` to words and an input in memory, and a
+//! handle, `sg_group`, keeps a group for questions about it. include/sg.h declares what is exported here, for C.
+//!
+//! Proved of `sg_answer`: status, text and fault text are those of the one answer that the words and the input have, and the
+//! lengths are those of the texts. Of a handle: it holds no group, or the group that the operators of its input generate; each
+//! question about it is answered for that group, and leaves the handle as it was. That a C program passes pointers to as many
+//! bytes as it says, to different places where one is written, is for its author to see to.
+#![tactic(auto)]
+
+mod answer;
+mod group;
+mod handle;
+mod loose;
+mod questions;
+mod slice_source;
+mod words;
+
+/// The status of a call that asks for what is out of range, as that of words that are no command in range.
+pub const OUT_OF_RANGE: u8 = 2;
+
+/// The status of a question about a handle that holds no group.
+pub const EMPTY: u8 = 11;

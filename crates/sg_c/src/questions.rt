@@ -1,0 +1,155 @@
+ghost use Rattle.std.specs.Prelude.{◌≡◌, ◌≢◌, ◌↔◌, None, IfSome};
+ghost use Rattle.lattice_algebra.specs.Operator.{AreWithin};
+ghost use Rattle.exact_ops.specs.Points.{AreCoordinatesInRange};
+ghost use Rattle.phase_rules.specs.declared.TheConstants.{MAX_INDEX};
+ghost use Rattle.sg_c.specs.Questions.{IsMarkedAs, IsReflection, IsSite, pairs_in, pairs_of};
+ghost use Rattle.sg_c.specs.declared.TheConstants.{OUT_OF_RANGE, EMPTY};
+
+use crate::handle::Handle;
+use crate::{EMPTY, OUT_OF_RANGE};
+use exact_ops::Point;
+use group_closure::Group;
+use orbit_map::multiplicity;
+use phase_rules::parts::Mark;
+use phase_rules::tallies::Tally;
+use phase_rules::{Index, Pairs};
+use site_symmetry::order_at;
+use std::alloc::Global;
+
+/// A reflection with any phase.
+const FREE: u8 = 0;
+
+/// A reflection whose phase is restricted.
+const RESTRICTED: u8 = 1;
+
+/// A systematically absent reflection.
+const ABSENT: u8 = 2;
+
+/// What symmetry says of a reflection: the size of its class, how many operators (W, t) have h W = h, and whether it is absent
+/// or restricted. The phase of a restricted one is so many times 180 / `UNIT` degrees, or 180 degrees further; otherwise it is 0.
+#[repr(C)]
+#[derive(Clone, Copy)]
+pub struct Reflection {
+    pub class_size: u16,
+    pub fixers: u16,
+    pub mark: u8,
+    pub phase: u8,
+}
+
+/// A fraction: a numerator and a denominator.
+#[repr(C)]
+#[derive(Clone, Copy)]
+pub struct Fraction {
+    pub n: i64,
+    pub d: i64,
+}
+
+/// A point by its coordinates, parts of a cell.
+#[repr(C)]
+#[derive(Clone, Copy)]
+pub struct Coordinates {
+    pub x: Fraction,
+    pub y: Fraction,
+    pub z: Fraction,
+}
+
+/// The order of the site-symmetry group of a point, and how many points its orbit has in a cell.
+#[repr(C)]
+#[derive(Clone, Copy)]
+pub struct Site {
+    pub order: u16,
+    pub multiplicity: u16,
+}
+
+fn symmetry_of(group: &Group, index: &Index, pairs: Pairs) -> Reflection
+    ensures { IsReflection pairs group.now index.now result }
+{
+    let tally = Tally::of(group, index);
+    let (mark, phase) = code_of(tally.mark(pairs));
+    Reflection {
+        class_size: tally.class_size(group, pairs),
+        fixers: tally.fixers,
+        mark,
+        phase,
+    }
+}
+
+fn code_of(mark: Mark) -> (u8, u8)
+    ensures { IsMarkedAs mark result.0 result.1 }
+{
+    match mark {
+        Mark::Free => (FREE, 0),
+        Mark::Phase(phase) => (RESTRICTED, phase),
+        Mark::Absent => (ABSENT, 0),
+    }
+}
+
+/// Writes what symmetry says of the reflection, with Friedel's law where it is asked for.
+#[unsafe(no_mangle)]
+pub extern "C" fn sg_reflection(
+    alloc: Global,
+    group: &mut Handle,
+    h: i32,
+    k: i32,
+    l: i32,
+    friedel: bool,
+    reflection: &mut Reflection,
+) -> u8
+    ensures range { (result ≡ OUT_OF_RANGE) ↔ (AreWithin MAX_INDEX h k l → ⊥) }
+    ensures empty { result ≡ EMPTY → group.old.group ≡ None }
+    ensures value { result ≡ 0 → IfSome group.old.group (λ members.
+        IsReflection (pairs_of friedel) members
+        (record { h = h; k = k; l = l }) reflection.new) }
+    ensures held { group.old.group ≡ None → result ≢ 0 }
+    ensures otherwise { result ≢ 0 → result ≢ OUT_OF_RANGE → result ≡ EMPTY }
+    ensures unwritten { result ≢ 0 → reflection.new ≡ reflection.old }
+    ensures same { group.new.group ≡ group.old.group }
+{
+    let Some(index) = Index::of(h, k, l) else {
+        return OUT_OF_RANGE;
+    };
+    let pairs = if friedel {
+        Pairs::Friedel
+    } else {
+        Pairs::Apart
+    };
+    let Some(held) = group.take(alloc) else {
+        return EMPTY;
+    };
+    *reflection = symmetry_of(&held, &index, pairs);
+    group.put(held);
+    0
+}
+
+/// Writes the order of the site-symmetry group of the point and how many points its orbit has in a cell.
+#[unsafe(no_mangle)]
+pub extern "C" fn sg_site(
+    alloc: Global,
+    group: &mut Handle,
+    point: &Coordinates,
+    site: &mut Site,
+) -> u8
+    ensures range { (result ≡ OUT_OF_RANGE)
+        ↔ (AreCoordinatesInRange (pairs_in point.now) → ⊥) }
+    ensures empty { result ≡ EMPTY → group.old.group ≡ None }
+    ensures value { result ≡ 0 → IfSome group.old.group (λ members.
+        IsSite members (pairs_in point.now) site.new) }
+    ensures held { group.old.group ≡ None → result ≢ 0 }
+    ensures otherwise { result ≢ 0 → result ≢ OUT_OF_RANGE → result ≡ EMPTY }
+    ensures unwritten { result ≢ 0 → site.new ≡ site.old }
+    ensures same { group.new.group ≡ group.old.group }
+{
+    let Coordinates { x, y, z } = *point;
+    let Some(point) = Point::of_coords([(x.n, x.d), (y.n, y.d), (z.n, z.d)]) else {
+        return OUT_OF_RANGE;
+    };
+    let Some(held) = group.take(alloc) else {
+        return EMPTY;
+    };
+    *site = Site {
+        order: order_at(&held, &point),
+        multiplicity: multiplicity(&held, &point),
+    };
+    group.put(held);
+    0
+}
