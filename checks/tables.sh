@@ -16,7 +16,7 @@ trap 'rm -rf "$made"' EXIT
 
 # Each line of the plan behind a mark, and behind a line that asks the program something, what it prints.
 ask() {
-    local word rest multiplicity letter point
+    local word rest point
     while read -r word rest; do
         echo "@ $word $rest"
         case $word in
@@ -24,14 +24,14 @@ ask() {
                 read -r point
                 # shellcheck disable=SC2086
                 printf '%s\n' $point >"$made/input"
-                "$sg" table 6 6 6 <"$made/input"
+                "$sg" table 6 6 6 <"$made/input" || echo "@ status $?"
                 echo '@ grid'
-                "$sg" grid 12 12 12 <"$made/input"
+                "$sg" grid 12 12 12 <"$made/input" || echo "@ status $?"
                 ;;
             position)
-                read -r multiplicity letter point <<<"$rest"
+                read -r _ _ point <<<"$rest"
                 # shellcheck disable=SC2086
-                "$sg" fit $point <"$made/input"
+                "$sg" fit $point <"$made/input" || echo "@ status $?"
                 ;;
         esac
     done

@@ -78,6 +78,8 @@ $1 == "@" && $2 == "position" {
     positions++
 }
 
+$1 == "@" && $2 == "status" { judge("status", 0, $3) }
+
 $1 == "@" { part = $2; next }
 
 # The headings of `table`, and the lines behind them.

@@ -24,8 +24,7 @@ GRID = 12
 KINDS = ["1", "-1", "2", "m", "3", "-3", "4", "-4", "6", "-6"]
 # Of each type with a proper part of this trace the order of that part: the classical table.
 ORDER_BY_TRACE = {3: 1, -1: 2, 0: 3, 1: 4, 2: 6}
-HEAD = """# Space groups as other programs tabulate them: README.md beside this file says how this file is read, and where it comes from.
-"""
+HEAD = "# Space-group settings as other programs tabulate them. README.md beside this file says how it is read.\n"
 
 disagreements = []
 
@@ -227,40 +226,39 @@ def letter_of(position):
     return position.letter().replace("@", "A")
 
 
-def points_of(position, parameters):
-    """The orbit of a point that has this position, in a cell."""
-    special = position.special_op()
-    rotation, translation = special.r().as_double(), special.t().as_double()
-    point = [sum(rotation[3 * i + j] * parameters[j] for j in range(3)) + translation[i] for i in range(3)]
+def orbit_of(point, operators):
+    """The images of a point in a cell."""
     found = []
-    for operator in position_operators:
-        image = [sum(operator[0][3 * i + j] * point[j] for j in range(3)) + operator[1][i] / 12 for i in range(3)]
-        image = [n % 1 for n in image]
+    for rotation, translation in operators:
+        image = [sum(rotation[3 * i + j] * point[j] for j in range(3)) + translation[i] / 12 for i in range(3)]
         if not any(all(abs((a - b + 0.5) % 1 - 0.5) < 1e-8 for a, b in zip(image, other)) for other in found):
             found.append(image)
     return found
 
 
-def letters_by_spglib(group, positions, operators):
-    """The letters that spglib gives the points of all positions: a crystal with one kind of atom a position, and one more on the
-    general position, so that it has no further symmetry."""
-    global position_operators
-    position_operators = sorted(operators)
+def crystal_of(group, positions, operators):
+    """The lattice, the atoms and their species of a crystal of this group and of no greater one: the atoms of one species are an
+    orbit, the first on the general position, and then one on each position."""
     cell = group.average_unit_cell(uctbx.unit_cell((7.1, 8.3, 9.7, 81, 97, 103)))
-    lattice = numpy.array(cell.orthogonalization_matrix()).reshape(3, 3).T
-    points, species = [], []
-    for n, position in enumerate([positions[0]] + positions):
-        parameters = [(0.0713 + 0.1931 * n) % 1, (0.2117 + 0.1127 * n) % 1, (0.3391 + 0.0717 * n) % 1]
-        orbit = points_of(position, parameters)
-        points += orbit
-        species += [n + 1] * len(orbit)
-    dataset = spglib.get_symmetry_dataset((lattice, points, species), symprec=1e-4)
-    if dataset is None:
-        return None, None
-    letters = {}
-    for letter, kind in zip(dataset["wyckoffs"], species):
-        letters.setdefault(kind, set()).add(letter)
-    return dataset["number"], [(species.count(n + 2), "".join(sorted(letters[n + 2]))) for n in range(len(positions))]
+    atoms, species = [], []
+    for number, position in enumerate([positions[0]] + positions):
+        parameters = [(0.0713 + 0.1931 * number) % 1, (0.2117 + 0.1127 * number) % 1, (0.3391 + 0.0717 * number) % 1]
+        rotation, translation = (part.as_double() for part in (position.special_op().r(), position.special_op().t()))
+        point = [sum(rotation[3 * i + j] * parameters[j] for j in range(3)) + translation[i] for i in range(3)]
+        orbit = orbit_of(point, operators)
+        atoms += orbit
+        species += [number] * len(orbit)
+    return numpy.array(cell.orthogonalization_matrix()).reshape(3, 3).T, atoms, species
+
+
+def positions_by_spglib(group, positions, operators):
+    """What spglib finds of that crystal: the number of its type, and of each species on a position how many atoms are equivalent
+    to its first one, and the letter."""
+    crystal = crystal_of(group, positions, operators)
+    dataset = spglib.get_symmetry_dataset(crystal, symprec=1e-4)
+    firsts = [crystal[2].index(number + 1) for number in range(len(positions))]
+    equivalent = Counter(dataset["equivalent_atoms"].tolist())
+    return dataset["number"], [(equivalent[dataset["equivalent_atoms"][n]], dataset["wyckoffs"][n]) for n in firsts]
 
 
 # ---- all of it
@@ -278,17 +276,13 @@ def block(symbol, entry, spglib_number):
     classes = agree(name, "classes", classes_by_cctbx(group, type_), classes_by_gemmi(entry))
     orbits = agree(name, "orbits", orbits_by_cctbx(type_), orbits_by_gemmi(entry))
     positions = positions_of(type_)
-    number, letters = letters_by_spglib(group, positions, operators)
-    if number is None:
-        print("%s: spglib finds no group" % name)
-    else:
-        agree(name, "number by spglib", symbol.number(), number)
-        agree(name, "multiplicities and letters",
-              (Counter(p.multiplicity() for p in positions), sorted(letter_of(p) for p in positions)),
-              (Counter(m for m, _ in letters), sorted(letter for _, letter in letters)))
+    number, by_spglib = positions_by_spglib(group, positions, operators)
+    agree(name, "number by spglib", symbol.number(), number)
+    agree(name, "multiplicities", [p.multiplicity() for p in positions], [multiplicity for multiplicity, _ in by_spglib])
+    agree(name, "multiplicities of letters", sorted((p.multiplicity(), letter_of(p)) for p in positions), sorted(by_spglib))
     figures = ["operators %d %s" % (len(operators), kinds)] + classes + [orbits]
     shown = ["%d %s %s" % (p.multiplicity(), letter_of(p), p.special_op_simplified()) for p in positions]
-    same = number is not None and all(letter_of(p) == letter for p, (_, letter) in zip(positions, letters))
+    same = all(letter_of(p) == letter for p, (_, letter) in zip(positions, by_spglib))
     head = ["= " + name, "# " + symbol.hall().strip(), " ".join(["<"] + list(map(triplet, generators_of(entry))))]
     return head, figures, shown, same
 
