@@ -7,8 +7,9 @@
 # From peers/*.cpp it makes two small programs over these libraries. In each of RUNS runs, 5 if left out, the programs take turns,
 # so that what else the machine does hits all of them. It prints medians in milliseconds a process, of time by the clock and of
 # processor time, and how often the time of `sg` goes into that of the other. Before, the answers of each program are compared with
-# those of `sg`: operators and orbits as lines, Wyckoff positions by their multiplicities, and classes of reflections by size,
-# number of operators and mark, since the representatives are each program's own. The last column names those that agree.
+# those of `sg`: operators, their types and orbits as lines, Wyckoff positions by their multiplicities, and classes of reflections
+# by size, number of operators and mark without the phase, since the representatives are each program's own. The last column names
+# the programs that agree.
 set -eu
 cd "$(dirname "${BASH_SOURCE[0]}")/.."
 export LC_ALL=C
@@ -154,7 +155,7 @@ for name in '2 P -1' '14 P 1 21/c 1' '225 F m -3 m'; do
     race "\`grid 128 128 128\`, $name" grid 128 128 128
 done
 inputs=("$made"/settings/*)
-for words in ops wyckoff 'refl 6 6 6'; do
+for words in ops types wyckoff 'refl 6 6 6' 'grid 12 12 12'; do
     # shellcheck disable=SC2086
     race "\`$words\`, each of ${#inputs[@]} settings" $words
 done

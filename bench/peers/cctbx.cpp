@@ -1,9 +1,10 @@
 // Some commands of `sg` over the library of cctbx, for bench/peers.sh: triplets and comments on standard input, lines like those
 // of `sg` on standard output. They come in cctbx's order, and those of `refl` and `wyckoff` show cctbx's representatives.
 //
-//     ops | wyckoff | refl H K L | grid A B C
+//     ops | types | wyckoff | refl H K L | grid A B C
 #include <cctbx/maptbx/grid_tags.h>
 #include <cctbx/miller/index_generator.h>
+#include <cctbx/sgtbx/rot_mx_info.h>
 #include <cctbx/sgtbx/space_group.h>
 #include <cctbx/sgtbx/space_group_type.h>
 #include <cctbx/sgtbx/wyckoff.h>
@@ -27,6 +28,21 @@ static sgtbx::space_group read_group() {
 static void print_operators(sgtbx::space_group const& group) {
   auto operators = group.all_ops(1);
   for (std::size_t i = 0; i < operators.size(); i++) std::puts(operators[i].as_xyz().c_str());
+}
+
+static void print_types(sgtbx::space_group const& group) {
+  auto operators = group.all_ops(1);
+  for (std::size_t i = 0; i < operators.size(); i++) {
+    sgtbx::rot_mx_info rotation(operators[i].r());
+    std::string kind = rotation.type() == -2 ? "m" : std::to_string(rotation.type());
+    std::string intrinsic = sgtbx::translation_part_info(operators[i]).intrinsic_part().as_string();
+    std::printf("%s %s %s ", operators[i].as_xyz().c_str(), kind.c_str(), intrinsic.c_str());
+    auto axis = rotation.ev();
+    bool turned = axis[0] < 0 || (axis[0] == 0 && (axis[1] < 0 || (axis[1] == 0 && axis[2] < 0)));
+    if (turned) axis = -axis;
+    if (axis.is_zero()) std::puts("-");
+    else std::printf("%d,%d,%d\n", axis[0], axis[1], axis[2]);
+  }
 }
 
 static void print_positions(sgtbx::space_group const& group) {
@@ -71,6 +87,7 @@ int main(int argc, char** argv) try {
   auto number = [&](int place) { return place < argc ? std::atoi(argv[place]) : 0; };
   sgtbx::space_group group = read_group();
   if (command == "ops") print_operators(group);
+  else if (command == "types") print_types(group);
   else if (command == "wyckoff") print_positions(group);
   else if (command == "refl") print_classes(group, miller::index<>(number(2), number(3), number(4)));
   else if (command == "grid") print_orbits(group, af::int3(number(2), number(3), number(4)));

@@ -16,13 +16,17 @@
 
 using namespace gemmi;
 
+static void add_translation(std::vector<Op::Tran>& translations, Op::Tran const& one) {
+  if (std::find(translations.begin(), translations.end(), one) == translations.end()) translations.push_back(one);
+}
+
 // gemmi takes the centring translations as they are listed, so their sums are added here.
-static void add_translations(GroupOps& group) {
-  for (size_t i = 0; i < group.cen_ops.size(); i++)
+static void add_sums(std::vector<Op::Tran>& translations) {
+  for (size_t i = 0; i < translations.size(); i++)
     for (size_t j = 0; j <= i; j++) {
       Op::Tran sum;
-      for (int k = 0; k < 3; k++) sum[k] = (group.cen_ops[i][k] + group.cen_ops[j][k]) % Op::DEN;
-      if (std::find(group.cen_ops.begin(), group.cen_ops.end(), sum) == group.cen_ops.end()) group.cen_ops.push_back(sum);
+      for (int k = 0; k < 3; k++) sum[k] = (translations[i][k] + translations[j][k]) % Op::DEN;
+      add_translation(translations, sum);
     }
 }
 
@@ -33,10 +37,10 @@ static GroupOps read_group() {
   for (std::string line; std::getline(std::cin, line);) {
     if (line.empty() || line[0] == '#') continue;
     Op op = parse_triplet(line).wrap();
-    if (op.rot == Op::identity().rot) group.cen_ops.push_back(op.tran);
+    if (op.rot == Op::identity().rot) add_translation(group.cen_ops, op.tran);
     else group.sym_ops.push_back(op);
   }
-  add_translations(group);
+  add_sums(group.cen_ops);
   group.add_missing_elements();
   return group;
 }
