@@ -3,7 +3,7 @@
 
     /usr/bin/python3 checks/tables/make.py
 
-It needs Debian's python3-cctbx, python3-gemmi, python3-spglib and python3-numpy, and takes some minutes. Each setting is one that
+It needs Debian's python3-cctbx, python3-gemmi, python3-spglib and python3-numpy, and takes half a minute. Each setting is one that
 all three have, with the same operators. Each figure is computed from two of them, and where they differ, that is printed and no
 file is written. README.md beside this file says which figure comes from where.
 """
