@@ -1,0 +1,124 @@
+"""What `sg` answers of a group, as values: its operations with their types, and its rows of Wyckoff positions.
+
+Translations and points are fractions of the basis vectors (docs/formats.md, "Printed texts").
+"""
+
+from __future__ import annotations
+
+import os
+import re
+import subprocess
+from collections.abc import Callable, Sequence
+from dataclasses import dataclass
+from fractions import Fraction
+
+Vector = tuple[Fraction, ...]
+Matrix = tuple[tuple[Fraction, ...], ...]
+
+# The words of a call and its input give the status, the output and the fault text.
+Call = Callable[[Sequence[str], str], tuple[int, str, str]]
+
+_TERM = re.compile(r"([+-]?)(?:(?:(\d+(?:/\d+)?)\*)?([xyz])|(\d+(?:/\d+)?))")
+
+
+class Refused(Exception):
+    """`sg` ended with a status other than 0."""
+
+    def __init__(self, status: int, fault: str) -> None:
+        super().__init__(fault.strip() or f"sg: status {status}")
+        self.status = status
+
+
+@dataclass(frozen=True)
+class Affine:
+    """The map x -> matrix x + shift."""
+
+    matrix: Matrix
+    shift: Vector
+
+    def __call__(self, point: Vector) -> Vector:
+        return tuple(product + s for product, s in zip(times(self.matrix, point), self.shift))
+
+
+@dataclass(frozen=True)
+class Operation:
+    """An operator with its type (ITA 1.2.2.4): `kind` as 2, m or -3, screw or glide part, direction of the axis."""
+
+    map: Affine
+    kind: str
+    intrinsic: Vector
+    axis: tuple[int, ...] | None
+
+
+@dataclass(frozen=True)
+class Row:
+    """A row of the table of Wyckoff positions: points of an orbit in a cell, and the map onto its points."""
+
+    place: int
+    multiplicity: int
+    text: str
+    map: Affine
+
+
+@dataclass(frozen=True)
+class Group:
+    operations: tuple[Operation, ...]
+    rows: tuple[Row, ...]
+
+    @property
+    def centrings(self) -> frozenset[Vector]:
+        """The translations of the lattice, each coordinate from 0 to below 1."""
+        return frozenset(o.map.shift for o in self.operations if o.kind == "1")
+
+
+def times(matrix: Matrix, vector: Sequence[Fraction | int]) -> Vector:
+    return tuple(sum((m * v for m, v in zip(row, vector)), Fraction(0)) for row in matrix)
+
+
+def product(left: Matrix, right: Matrix) -> Matrix:
+    return tuple(zip(*(times(left, column) for column in zip(*right))))
+
+
+def read_affine(text: str) -> Affine:
+    """The map of a printed triplet such as `x-1/2*y,0,z+1/4`."""
+    rows, shift = [], []
+    for component in text.split(","):
+        row, constant = [Fraction(0)] * 3, Fraction(0)
+        for sign, factor, letter, number in _TERM.findall(component):
+            value = Fraction(sign + (factor or number or "1"))
+            if letter:
+                row["xyz".index(letter)] += value
+            else:
+                constant += value
+        rows.append(tuple(row))
+        shift.append(constant)
+    return Affine(tuple(rows), tuple(shift))
+
+
+def _read_operation(line: str) -> Operation:
+    triplet, kind, intrinsic, axis = line.split(" ")
+    direction = None if axis == "-" else tuple(int(number) for number in axis.split(","))
+    return Operation(read_affine(triplet), kind, tuple(Fraction(part) for part in intrinsic.split(",")), direction)
+
+
+def _read_row(line: str) -> Row:
+    place, multiplicity, text = line.split(" ")
+    return Row(int(place), int(multiplicity), text, read_affine(text))
+
+
+def run_program(words: Sequence[str], text: str) -> tuple[int, str, str]:
+    """Calls the program that the environment's SG names, else `sg` on the path."""
+    done = subprocess.run([os.environ.get("SG", "sg"), *words], input=text, capture_output=True, text=True, check=False)
+    return done.returncode, done.stdout, done.stderr
+
+
+def read_group(text: str, call: Call = run_program) -> Group:
+    """The group that the lines of `text` generate, as `sg types` and `sg wyckoff` answer it."""
+
+    def lines(word: str) -> list[str]:
+        status, output, fault = call([word], text)
+        if status != 0:
+            raise Refused(status, fault)
+        return output.splitlines()
+
+    return Group(tuple(map(_read_operation, lines("types"))), tuple(map(_read_row, lines("wyckoff"))))
