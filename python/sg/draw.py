@@ -26,15 +26,15 @@ from .answers import Affine, Group, Row, Vector, read_group
 from .elements import Elements, FlatAxis, Glide, Line, elements, foot, matrix_order
 from .projection import Projection, projection, turned
 
-CELL = 300.0  # the greater extent of a drawn cell, in pixels
-MARGIN = 68.0
+CELL = 260.0  # the longer axis of a drawn cell, in pixels; of a crowded one it is 1.7 times as long
+CROWDED = 40  # so many different places on the paper make a drawing crowded
 
 _STYLE = """
 body{font-family:Helvetica,Arial,'Liberation Sans','DejaVu Sans',sans-serif;font-size:10.5pt;color:#111;background:#fff;
-max-width:1000px;margin:24px auto;padding:0 16px}
+max-width:1060px;margin:24px auto;padding:0 16px}
 h1{font-size:17pt;font-weight:600;margin:0}h2{font-size:10.5pt;font-weight:600;margin:0 0 4px}p{margin:4px 0 12px}
-.row{display:flex;flex-wrap:wrap;gap:12px 28px;align-items:flex-start;margin:14px 0}.row>*{flex:1 1 380px;min-width:0}
-.row figure{margin:0}.row svg{width:100%;height:auto}.note{color:#555;font-size:9pt}
+.row{display:flex;flex-wrap:wrap;gap:12px 24px;align-items:flex-end;margin:14px 0}.row>*{flex:0 1 auto;min-width:0}
+.row.wide>*{flex:1 1 380px;align-self:flex-start}figure{margin:0}figure svg{max-width:100%;height:auto}.note{color:#555;font-size:9pt}
 .legend{display:grid;grid-template-columns:repeat(auto-fill,minmax(300px,1fr));gap:2px 20px;font-size:9pt;margin:0 0 16px}
 .legend div{display:flex;align-items:center;gap:10px}.legend svg{flex:none}
 table{border-collapse:collapse;font-size:9.5pt;width:100%}th{text-align:left;font-weight:600;border-bottom:1px solid #111}
@@ -59,26 +59,25 @@ class Html(str):
 
 # ---- the frame of a diagram
 
-def _picture(paper: Projection, content: str) -> Svg:
+def _picture(paper: Projection, gap: float, strip: float, content: str) -> Svg:
+    """The content, with the cell's frame and the names of its axes so many pixels beyond their ends, and a strip above."""
     left, top, right, bottom = paper.box()
-    width, height = right - left + 2 * MARGIN, bottom - top + 2 * MARGIN
-    box = f"{left - MARGIN:.1f} {top - MARGIN:.1f} {width:.1f} {height:.1f}"
-    ground = glyphs.tag("rect", x=left - MARGIN, y=top - MARGIN, width=width, height=height, fill="#fff")
+    left, top, right, bottom = left - gap - 14, top - gap - 14 - strip, right + gap + 14, bottom + gap + 14
+    width, height = right - left, bottom - top
+    ground = glyphs.tag("rect", x=left, y=top, width=width, height=height, fill="#fff")
     return Svg(
-        f'<svg xmlns="http://www.w3.org/2000/svg" viewBox="{box}" width="{width:.0f}" height="{height:.0f}" '
-        f'font-family="{glyphs.FONT}" fill="{glyphs.INK}">{ground}{content}</svg>'
+        f'<svg xmlns="http://www.w3.org/2000/svg" viewBox="{left:.1f} {top:.1f} {width:.1f} {height:.1f}" width="{width:.0f}" '
+        f'height="{height:.0f}" font-family="{glyphs.FONT}" fill="{glyphs.INK}">{ground}{_frame(paper, gap)}{content}</svg>'
     )
 
 
-def _frame(paper: Projection, gap: float = 40.0) -> str:
-    """The cell, its origin and the names of its axes, so many pixels beyond their ends."""
+def _frame(paper: Projection, gap: float) -> str:
     corners = [paper.place(u, v) for u, v in ((0, 0), (0, 1), (1, 1), (1, 0))]
     sides = "".join(glyphs.segment(corners[i - 1], corners[i], 0.6) for i in range(4))
     (x, y), (u, v) = paper.place(1, 0), _unit(paper.down)
-    (r, s) = paper.place(0, 1)
     names = glyphs.text(x + gap * u, y + gap * v + 5, paper.names[0], 13, "middle", font_style="italic")
-    names += glyphs.text(r + gap, s + 4.5, paper.names[1], 13, "middle", font_style="italic")
-    return sides + names + glyphs.text(-gap * 0.75, -gap * 0.6, "0", 12, "middle")
+    names += glyphs.text(paper.right[0] + gap, 4.5, paper.names[1], 13, "middle", font_style="italic")
+    return sides + names + glyphs.text(-0.75 * gap, -0.6 * gap, "0", 12, "middle")
 
 
 def _unit(way: tuple[float, float]) -> tuple[float, float]:
@@ -121,9 +120,10 @@ def _height_list(heights: Iterable[Fraction]) -> str:
     return "" if listed in ([], [0]) else ",".join(map(glyphs.fraction, listed))
 
 
-def _border_symbols(paper: Projection, flat: Sequence[FlatAxis], period: Fraction) -> str:
-    """The flat axes: a symbol at either end of each, outside the cell, and the height at the end that is further right or up."""
-    lines, drawn = defaultdict(list), ""
+def _border_symbols(paper: Projection, flat: Sequence[FlatAxis], period: Fraction) -> tuple[str, float]:
+    """The flat axes: a symbol at either end of each, outside the cell, and the height at the end that is further right or up.
+    With that, how far they reach."""
+    lines, drawn, reach = defaultdict(list), "", 0.0
     for axis in sorted(flat, key=lambda axis: (axis.heights, axis.symbol)):
         lines[axis.line].append(axis)
     for line, axes in lines.items():
@@ -144,7 +144,8 @@ def _border_symbols(paper: Projection, flat: Sequence[FlatAxis], period: Fractio
                         width = 3 + 5 * len(label)
                         drawn += glyphs.text(x + (18 + width / 2) * way[0], y + 21 * way[1] + 3.5, label, 10, "middle")
                         distance += abs(way[0]) * width + abs(way[1]) * 9
-    return drawn
+                reach = max(reach, distance)
+    return drawn, reach
 
 
 def _border_symbol(symbol: str, start: tuple[float, float], way: tuple[float, float]) -> str:
@@ -160,10 +161,15 @@ def _draw_planes(paper: Projection, found: Elements) -> str:
         for m, first, last in _crossings(plane.line):
             start, end = (paper.place(*_on_line(plane.line, m, multiple)) for multiple in (first, last))
             drawn += glyphs.plane_line(start, end, plane.glide, plane.arrow)
-    _, top, right, _ = paper.box()
+    return drawn
+
+
+def _draw_flat_planes(paper: Projection, planes: Sequence[FlatPlane], top: float) -> str:
+    """A corner for each, to the right in the strip that begins at `top`."""
+    drawn, right = "", paper.box()[2]
     arms = (_unit(paper.right), _unit(paper.down))
-    for i, plane in enumerate(found.flat_planes):
-        x, y = right + 44 - 48 * i, top - 62
+    for i, plane in enumerate(planes):
+        x, y = right + 10 - 52 * i, top + 8
         arrows = [_unit(paper.place(*vector)) for vector in plane.vectors]
         drawn += glyphs.corner(x, y, arms, arrows)
         drawn += glyphs.text(x - 5, y + 9, _height_list({plane.height}), 10, "end")
@@ -171,8 +177,10 @@ def _draw_planes(paper: Projection, found: Elements) -> str:
 
 
 def _draw_elements(paper: Projection, found: Elements) -> Svg:
-    drawn = _frame(paper, 58 if found.flat_axes else 26) + _draw_planes(paper, found) + _border_symbols(paper, found.flat_axes, found.period)
-    labels = ""
+    border, reach = _border_symbols(paper, found.flat_axes, found.period)
+    gap, strip = max(reach + 10, 26), 26 if found.flat_planes else 0
+    drawn = _draw_planes(paper, found) + border
+    labels = _draw_flat_planes(paper, found.flat_planes, paper.box()[1] - gap - 14 - strip)
     for axis in found.upright_axes:
         for copy in _copies(axis.position):
             x, y = paper.place(*copy)
@@ -183,7 +191,7 @@ def _draw_elements(paper: Projection, found: Elements) -> Svg:
                 labels += glyphs.text(
                     x + reach, y - reach + 1, label, 9.5, stroke="#fff", stroke_width=2.4, paint_order="stroke"
                 )
-    return _picture(paper, drawn + labels)
+    return _picture(paper, gap, strip, drawn + labels)
 
 
 def symmetry_elements(group: Group, axis: str = "c") -> Svg:
@@ -231,9 +239,9 @@ def _spread(maps: Sequence[Affine], paper: Projection, wanted: float) -> tuple[V
         return [[*map(float, row), float(s)] for row, s in zip(m.matrix[:2], m.shift)]
 
     pairs = [(numbers(base), [numbers(m) for m in flat if (m.matrix[:2], m.shift[:2]) != (base.matrix[:2], base.shift[:2])]) for base in bases]
-    steps = [n / 40 for n in (range(2, 10) if mixing else range(2, 20))]
+    steps = [n / 48 for n in (range(2, 12) if mixing else range(2, 24))]
     best = (-1.0, (0.1, 0.1, 0.1))
-    for u, v, w in sorted(choices(steps, steps, steps if mixing else [0.1]), key=lambda p: (sum(p), -p[1])):
+    for u, v, w in sorted(choices(steps, steps, steps if mixing else [0.1]), key=lambda p: (hypot(*paper.place(p[0], p[1])), p[2])):
         least = wanted
         for ((a, b, c, t), (d, e, f, s)), others in pairs:
             x0, y0 = a * u + b * v + c * w + t, d * u + e * v + f * w + s
@@ -248,16 +256,18 @@ def _spread(maps: Sequence[Affine], paper: Projection, wanted: float) -> tuple[V
             best = (least, (u, v, w))
             if least >= wanted:
                 break
-    return tuple(Fraction(round(c * 40), 40) for c in best[1]), best[0]
+    return tuple(Fraction(round(c * 480), 480) for c in best[1]), best[0]
 
 
 def general_position(group: Group, axis: str = "c") -> Svg:
     """The orbit of a general point: a circle each, with a comma where the hand is the other one, and the height beside it."""
-    paper, seen = projection(group, axis, CELL), turned(group, axis)
+    seen = turned(group, axis)
     maps = [o.map for o in seen.operations]
-    point, distance = _spread(maps, paper, 36.0)
+    crowded = len({(m.matrix[:2], m.shift[:2]) for m in maps}) > CROWDED
+    paper = projection(group, axis, 1.7 * CELL if crowded else CELL)
+    point, distance = _spread(maps, paper, 30.0)
     radius = min(7.0, max(2.4, distance / 3.6))
-    size, margin = (10.0, 0.2) if distance > 22 else (max(5.0, 1.75 * radius), 0.0)
+    size, margin = (10.0, 0.2) if distance > 22 else (max(6.0, 1.6 * radius), 0.0)
 
     places = defaultdict(list)
     for operation in seen.operations:
@@ -266,7 +276,7 @@ def general_position(group: Group, axis: str = "c") -> Svg:
         height = _height(operation.map.matrix[2], operation.map.shift[2], paper.letters[:3])
         places[u % 1, v % 1].append((odd, height))
 
-    drawn = _frame(paper)
+    drawn = ""
     for place, images in places.items():
         plain, odd = ([height for mark, height in images if mark is which] for which in (False, True))
         for copy in _copies(place, margin):
@@ -281,7 +291,7 @@ def general_position(group: Group, axis: str = "c") -> Svg:
                 drawn += glyphs.text(x + radius + 1, y - radius * 0.55, _joined(odd), size)
             else:
                 drawn += glyphs.text(x + radius * 0.85, y - radius * 0.65, _joined(plain + odd), size)
-    return _picture(paper, drawn)
+    return _picture(paper, 54 if margin else 26, 0, drawn)
 
 
 def positions(group: Group, rows: Iterable[int] | None = None, axis: str = "c") -> Svg:
@@ -301,14 +311,14 @@ def positions(group: Group, rows: Iterable[int] | None = None, axis: str = "c") 
             shift = sum(w[2][k] * form.shift[k] for k in range(3)) + t[2]
             labels[u, v].setdefault(row.place, []).append(_height(linear, shift, paper.letters))
 
-    drawn = _frame(paper)
+    drawn = ""
     for place, found in labels.items():
         for copy in _copies(place):
             x, y = paper.place(*copy)
             drawn += tag_dot(x, y, len(wanted) == 1)
             for i, (row, heights) in enumerate(found.items()):
                 drawn += glyphs.text(x + 5, y - 4 + 10.5 * i, f"<tspan font-weight='bold'>{row}</tspan> {_joined(sorted(heights))}", 8.5)
-    return _picture(paper, drawn)
+    return _picture(paper, 26, 0, drawn)
 
 
 def tag_dot(x: float, y: float, plain: bool) -> str:
@@ -411,8 +421,8 @@ def sheet(group: Group, title: str = "", axes: str = "c") -> Html:
         f"<style>{_STYLE}</style></head><body><h1>{escape(title or 'Space group')}</h1><p class='note'>{words}. The axis of"
         " projection points at the reader; heights are fractions of it, and an element without one has height 0. A comma marks the"
         f" points of the other hand.</p>{''.join(_axis_rows(group, axis) for axis in axes)}"
-        f'<div class="row"><div><h2>Wyckoff positions</h2>{_rows_table(group.rows, order)}</div>{points}</div>'
-        f'<div class="row"><div><h2>Operators</h2>{_operations_table(group)}</div></div></body></html>\n'
+        f'<div class="row wide"><div><h2>Wyckoff positions</h2>{_rows_table(group.rows, order)}</div>{points}</div>'
+        f'<div class="row wide"><div><h2>Operators</h2>{_operations_table(group)}</div></div></body></html>\n'
     )
 
 

@@ -9,7 +9,7 @@ from __future__ import annotations
 from collections.abc import Iterable
 from dataclasses import dataclass
 from fractions import Fraction
-from math import atan2, cos, hypot, sin, sqrt
+from math import sqrt
 
 from .answers import Affine, Group, Matrix, Operation, Row, Vector
 
@@ -77,7 +77,7 @@ class Projection:
 
 
 def projection(group: Group, axis: str, size: float) -> Projection:
-    """The projection of `group`, as it stands before it is turned; `size` is the cell's greater extent in pixels.
+    """The projection of `group`, as it stands before it is turned; `size` is the longer axis of the paper, in pixels.
 
     The axes of the paper are projected at right angles to the axis of projection. One that is oblique to it comes out
     shorter, and has the index p at its name.
@@ -87,8 +87,7 @@ def projection(group: Group, axis: str, size: float) -> Projection:
     length_i, length_j = (sqrt(g[n][n] - g[n][k] ** 2 / g[k][k]) for n in (i, j))
     along = float(g[i][j] - g[i][k] * g[j][k] / g[k][k]) / length_j
     down, right = (along, sqrt(max(length_i**2 - along**2, 0.0))), (length_j, 0.0)
-    extent = max(abs(down[0]) + right[0] if down[0] > 0 else max(right[0], right[0] - down[0]), down[1])
-    scale = size / extent
+    scale = size / max(length_i, length_j)
     names = tuple("abc"[n] + ("ₚ" if n != k and g[n][k] != 0 else "") for n in order)
     return Projection(
         (down[0] * scale, down[1] * scale), (right[0] * scale, 0.0), names, tuple("xyz"[n] for n in order)
