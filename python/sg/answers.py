@@ -37,7 +37,10 @@ class Affine:
     shift: Vector
 
     def __call__(self, point: Vector) -> Vector:
-        return tuple(product + s for product, s in zip(times(self.matrix, point), self.shift))
+        return tuple(image + s for image, s in zip(times(self.matrix, point), self.shift))
+
+    def after(self, first: Affine) -> Affine:
+        return Affine(product(self.matrix, first.matrix), self(first.shift))
 
 
 @dataclass(frozen=True)
@@ -48,6 +51,21 @@ class Operation:
     kind: str
     intrinsic: Vector
     axis: tuple[int, ...] | None
+
+    @property
+    def improper(self) -> bool:
+        return self.kind == "m" or self.kind.startswith("-")
+
+    @property
+    def rotation_order(self) -> int:
+        """The order of the proper part of its matrix."""
+        return 2 if self.kind == "m" else abs(int(self.kind))
+
+    @property
+    def order(self) -> int:
+        """The order of its matrix."""
+        n = self.rotation_order
+        return 2 * n if self.improper and n % 2 else n
 
 
 @dataclass(frozen=True)
@@ -69,6 +87,32 @@ class Group:
     def centrings(self) -> frozenset[Vector]:
         """The translations of the lattice, each coordinate from 0 to below 1."""
         return frozenset(o.map.shift for o in self.operations if o.kind == "1")
+
+
+def free_form(map: Affine) -> Affine:
+    """The same points by free coordinates, as tables print them: B z + t - B t. A coordinate is free where some vector of the
+    map's image has 0 in all coordinates before it and not in it. Its column of B is such a vector, with 1 in that coordinate and
+    0 in every other free one; the other columns are zero."""
+    columns, found = [list(column) for column in zip(*map.matrix)], {}
+    for i in range(3):
+        lead = next((column for column in columns if column[i] != 0), None)
+        if lead is None:
+            continue
+        lead = [entry / lead[i] for entry in lead]
+        columns = [[c - column[i] * e for c, e in zip(column, lead)] for column in columns]
+        found = {j: [c - column[i] * e for c, e in zip(column, lead)] for j, column in found.items()} | {i: lead}
+    matrix = tuple(zip(*(found.get(j, [Fraction(0)] * 3) for j in range(3))))
+    return Affine(matrix, tuple(t - b for t, b in zip(map.shift, times(matrix, map.shift))))
+
+
+def affine_text(map: Affine) -> str:
+    """The map as `sg` prints one."""
+    components = []
+    for row, shift in zip(map.matrix, map.shift):
+        terms = [("-" if f < 0 else "+") + ("" if abs(f) == 1 else f"{abs(f)}*") + x for f, x in zip(row, "xyz") if f]
+        terms += [f"+{shift % 1}"] if shift % 1 else []
+        components.append("".join(terms).removeprefix("+") or "0")
+    return ",".join(components)
 
 
 def times(matrix: Matrix, vector: Sequence[Fraction | int]) -> Vector:
@@ -107,8 +151,9 @@ def _read_row(line: str) -> Row:
 
 
 def run_program(words: Sequence[str], text: str) -> tuple[int, str, str]:
-    """Calls the program that the environment's SG names, else `sg` on the path."""
-    done = subprocess.run([os.environ.get("SG", "sg"), *words], input=text, capture_output=True, text=True, check=False)
+    """Calls the program that the environment's SG names, else the `sg` on the path, which on many systems is another program."""
+    program = os.environ.get("SG") or "sg"
+    done = subprocess.run([program, *words], input=text, capture_output=True, text=True, check=False)
     return done.returncode, done.stdout, done.stderr
 
 

@@ -2,15 +2,16 @@
 
 All of this is said of a turned group (`projection.turned`): the paper is the plane of the first two coordinates, down and
 right, and the third is the height. An element is upright where it is parallel to the direction of projection, and flat where it
-is at right angles to that. Other elements are inclined; they are counted and not located.
+is at right angles to that. Other elements are inclined; their kinds are listed, and they are not located.
 
-Positions are listed modulo the cell. Heights are listed modulo the period at which the lattice repeats them.
+Positions are modulo the cell. Heights are modulo the period at which the lattice repeats them: a point of inversion, a flat
+plane or a flat twofold axis comes again half a translation higher. The basis is taken as right-handed.
 """
 
 from __future__ import annotations
 
 from collections import defaultdict
-from collections.abc import Iterable, Iterator
+from collections.abc import Iterable, Iterator, Sequence
 from dataclasses import dataclass
 from enum import Enum
 from fractions import Fraction
@@ -19,9 +20,9 @@ from math import gcd
 
 from .answers import Group, Matrix, Operation, Vector, product, times
 
-_IDENTITY: Matrix = tuple(tuple(Fraction(i == j) for j in range(3)) for i in range(3))
-_UP = (Fraction(0), Fraction(0), Fraction(1))
 Pair = tuple[Fraction, Fraction]
+
+_UP = (0, 0, 1)
 _FINEST = 24  # `sg` has translations in twenty-fourths of a cell.
 
 
@@ -58,14 +59,20 @@ class Line:
     def direction(self) -> tuple[int, int]:
         return -self.normal[1], self.normal[0]
 
+    def point(self, m: int, multiple: Fraction) -> Pair:
+        """The point of its copy m that is so many directions beyond a certain point of that, its foot."""
+        foot = _whole_point(self.normal)
+        return tuple(f * (self.offset + m) + multiple * d for f, d in zip(foot, self.direction))
+
 
 @dataclass(frozen=True)
 class UprightPlane:
-    """A plane seen edge on. `arrow` is the sign of the glide along the line's direction, for a glide upwards by a quarter."""
+    """A plane seen edge on. Where the glide is QUARTER, `way` is the sign of its part along the line's direction when it goes
+    upwards by the least height, and else 0."""
 
     line: Line
     glide: Glide
-    arrow: int
+    way: int
 
 
 @dataclass(frozen=True)
@@ -79,13 +86,18 @@ class FlatPlane:
 
 @dataclass(frozen=True)
 class FlatAxis:
-    """An axis in the paper's plane. Where it is oblique to a basis vector of the paper, its height changes by `slope` on the way
-    by the line's direction; the heights are those where it passes `offset` times the whole point `foot(line)`."""
+    """An axis in the paper's plane. The heights are those above the foot of its line, modulo `period`; they change by `slope`
+    with each direction, and so not at all where that is a sum of the paper's basis vectors."""
 
     line: Line
     symbol: str
     heights: tuple[Fraction, ...]
     slope: Fraction
+    period: Fraction
+
+    def heights_at(self, multiple: Fraction) -> list[Fraction]:
+        """The heights so many directions beyond the foot."""
+        return sorted((height + self.slope * multiple) % self.period for height in self.heights)
 
 
 @dataclass(frozen=True)
@@ -95,151 +107,163 @@ class Elements:
     flat_axes: tuple[FlatAxis, ...]
     flat_planes: tuple[FlatPlane, ...]
     period: Fraction  # the least translation along the direction of projection
-    inclined: tuple[str, ...]  # the kinds of the operations whose elements are inclined
+    inclined: tuple[str, ...]  # the kinds of operations whose elements are inclined
+
+
+def elements(group: Group) -> Elements:
+    """The elements of a turned group."""
+    period = least_translation(group, _UP)
+    points, lines, inclined = defaultdict(list), defaultdict(list), set()
+    upright_planes, flat_planes = set(), set()
+    for operation in group.operations:
+        if operation.kind == "1":
+            continue
+        up = times(_mean_rotation(operation), _UP)
+        upright = operation.kind == "-1" or up == _UP
+        if not upright and any(up):
+            inclined.add(operation.kind)
+            continue
+        for point, intrinsic in located(operation):
+            if operation.kind == "m":
+                plane = (_flat_plane if upright else _upright_plane)(group, operation, point, intrinsic)
+                (flat_planes if upright else upright_planes).add(plane)
+            elif upright:
+                points[point[:2]].append((operation.kind, _screw(group, operation, _UP, intrinsic), point[2]))
+            else:
+                line, slope, height = _flat_line(operation.axis, point)
+                for n in range(slope.denominator):
+                    entry = operation.kind, _screw(group, operation, operation.axis, intrinsic), point[2]
+                    lines[line, slope, (height + n * slope) % period].append(entry)
+
+    return Elements(
+        tuple(sorted((_upright_axis(at, found, period) for at, found in points.items()), key=lambda axis: axis.position)),
+        tuple(sorted(upright_planes, key=lambda plane: (plane.line.normal, plane.line.offset))),
+        tuple(sorted(_flat_axes(lines, period), key=lambda axis: (axis.line.normal, axis.line.offset, axis.heights))),
+        tuple(sorted(flat_planes, key=lambda plane: plane.height)),
+        period,
+        tuple(sorted(inclined)),
+    )
 
 
 # ---- one operation
 
-def matrix_order(kind: str) -> int:
-    """The order of the matrix of an operation of that kind."""
-    if kind == "m":
-        return 2
-    number = int(kind)
-    return number if number > 0 else -number * (1 + number % 2)
-
-
-def _proper(operation: Operation) -> Matrix:
-    sign = -1 if operation.kind == "m" or operation.kind.startswith("-") else 1
-    return tuple(tuple(sign * entry for entry in row) for row in operation.map.matrix)
-
-
-def _rotation_order(kind: str) -> int:
-    return 2 if kind == "m" else abs(int(kind))
-
-
-def _powers(matrix: Matrix, count: int) -> list[Matrix]:
-    powers = [_IDENTITY]
-    while len(powers) < count:
-        powers.append(product(matrix, powers[-1]))
-    return powers
-
-
-def _combination(terms: Iterable[tuple[Fraction, Matrix]]) -> Matrix:
+def _weighted_powers(matrix: Matrix, weights: Sequence[Fraction]) -> Matrix:
+    """The sum of the powers of the matrix from the power 0 on, each with its weight."""
+    power = tuple(tuple(Fraction(i == j) for j in range(3)) for i in range(3))
     total = [[Fraction(0)] * 3 for _ in range(3)]
-    for factor, matrix in terms:
-        for i, j in choices(range(3), range(3)):
-            total[i][j] += factor * matrix[i][j]
+    for weight in weights:
+        total = [[t + weight * p for t, p in zip(row, powers)] for row, powers in zip(total, power)]
+        power = product(matrix, power)
     return tuple(map(tuple, total))
 
 
-def _add(left: Vector, right: Iterable[Fraction | int]) -> Vector:
-    return tuple(x + y for x, y in zip(left, right))
+def _mean_rotation(operation: Operation) -> Matrix:
+    """The projection onto the axis of the operation's proper part, at right angles to it in any metric that the group keeps."""
+    n, sign = operation.rotation_order, -1 if operation.improper else 1
+    return _weighted_powers(tuple(tuple(sign * e for e in row) for row in operation.map.matrix), [Fraction(1, n)] * n)
 
 
 def located(operation: Operation) -> Iterator[tuple[Vector, Vector]]:
-    """A point of the element, and the screw or glide part, of the operation with whole shifts added to it: with so many that the
-    points are all there are, up to whole cells and moves along the element.
+    """A point of the element, modulo the cell, and the screw or glide part, of the operation with whole shifts added to it: with
+    so many that the points are all there are, up to moves along the element.
 
     Without its intrinsic part v the operation has a fixed point, the mean of the images of the origin under its k powers:
-    (1/k) sum of (k-1-i) W^i v over i from 0 to k-2 (ITA 1.2.2.4). A shift by k m is one by (I - W) m' for a whole m' but for
-    moves along the element; so shifts from 0 to k - 1 suffice.
+    (1/k) sum of (k-1-i) W^i v over i from 0 to k-2 (ITA 1.2.2.4). A shift by k m is one by (I - W) m' for a whole m', up to
+    moves along the element, and so moves the point by whole cells; so shifts from 0 to k - 1 suffice.
     """
-    k = matrix_order(operation.kind)
-    powers = _powers(operation.map.matrix, k)
-    along = _combination((Fraction(1, k), power) for power in powers)
-    centre = _combination((Fraction(k - 1 - i, k), power) for i, power in enumerate(powers))
+    k = operation.order
+    along = _weighted_powers(operation.map.matrix, [Fraction(1, k)] * k)
+    centre = _weighted_powers(operation.map.matrix, [Fraction(k - 1 - i, k) for i in range(k)])
     met = set()
     for shift in choices(range(k), repeat=3):
-        intrinsic = _add(operation.intrinsic, times(along, shift))
-        rest = tuple(t + n - i for t, n, i in zip(operation.map.shift, shift, intrinsic))
+        intrinsic = tuple(i + a for i, a in zip(operation.intrinsic, times(along, shift)))
+        rest = [t + n - i for t, n, i in zip(operation.map.shift, shift, intrinsic)]
         point = tuple(c % 1 for c in times(centre, rest))
         if point not in met:
             met.add(point)
             yield point, intrinsic
 
 
-def _turns_left(operation: Operation, axis: Iterable[int]) -> bool:
-    """Whether a proper operation of order above 2 turns counter-clockwise, seen against its axis (a right-handed basis)."""
-    a, b, c = axis
-    for v in _IDENTITY:
-        x, y, z = times(operation.map.matrix, v)
+def least_translation(group: Group, direction: Sequence[int]) -> Fraction:
+    """The least multiple of the direction, which is whole and without a common divisor, that is a translation of the lattice."""
+    parts = (n for n in range(_FINEST, 0, -1) if tuple(Fraction(d, n) % 1 for d in direction) in group.centrings)
+    return Fraction(1, next(parts))
+
+
+def _screw(group: Group, operation: Operation, axis: Sequence[int], intrinsic: Vector) -> Fraction:
+    """The screw part in least translations along the axis, for the turn that is counter-clockwise when seen against it."""
+    at = next(i for i in range(3) if axis[i] != 0)
+    screw = intrinsic[at] / axis[at] / least_translation(group, axis)
+    (a, b, c), sign = axis, -1 if operation.improper else 1
+    for v in ((1, 0, 0), (0, 1, 0), (0, 0, 1)):
+        x, y, z = (sign * e for e in times(operation.map.matrix, v))
         volume = a * (v[1] * z - v[2] * y) + b * (v[2] * x - v[0] * z) + c * (v[0] * y - v[1] * x)
         if volume != 0:
-            return volume > 0
-    return True
-
-
-# ---- what an axis is called
-
-@dataclass(frozen=True)
-class _OnAxis:
-    """An operation on an axis: its kind, its screw part in the lattice's least translations along it, and the height of its
-    element's point."""
-
-    kind: str
-    screw: Fraction
-    height: Fraction
-
-
-def _axis_symbol(found: list[_OnAxis]) -> str:
-    """The name of the axis on which these operations are, as ITA 2.1.2 prints it; all turn counter-clockwise."""
-    kinds = {entry.kind for entry in found}
-    n = max((int(entry.kind) for entry in found if not entry.kind.startswith("-")), default=1)
-    p = next((int(n * (entry.screw % 1)) for entry in found if entry.kind == str(n)), 0)
-    screw = f"{n}_{p}" if p else str(n)
-    if n == 3 and "-6" in kinds:
-        return "-6"
-    if n == 2 and "-4" in kinds:
-        return "-4"
-    if "-1" in kinds:
-        return {1: "-1", 3: "-3"}.get(n, screw + "/m")
+            return screw if volume > 0 else -screw
     return screw
 
 
-def _heights(found: list[_OnAxis], symbol: str, period: Fraction) -> tuple[Fraction, ...]:
-    """A point of inversion or rotoinversion comes again half a translation higher."""
-    kind = symbol if symbol in ("-4", "-6") else "-1"
-    return tuple(sorted({entry.height % (period / 2) for entry in found if entry.kind == kind}))
+# ---- axes: of each operation on one its kind, screw part and height
+
+def _axis_symbol(found: Iterable[tuple[str, Fraction, Fraction]]) -> str:
+    """The name of an axis, as 3_1, -4 or 2/m, from all the operations on it."""
+    screws = {kind: screw for kind, screw, _ in found}
+    n = max((int(kind) for kind in screws if not kind.startswith("-")), default=1)
+    p = int(n * (screws[str(n)] % 1)) if n > 1 else 0
+    name = f"{n}_{p}" if p else str(n)
+    if (n == 2 and "-4" in screws) or (n == 3 and "-6" in screws):
+        return f"-{2 * n}"
+    if "-1" in screws:
+        return {1: "-1", 3: "-3"}.get(n, name + "/m")
+    return name
 
 
-# ---- the elements of a group
-
-def _least_translation(centrings: frozenset[Vector], axis: Iterable[int]) -> Fraction:
-    """The least multiple of the direction, which is whole and without a common divisor, that is a translation of the lattice."""
-    direction = tuple(axis)
-    for parts in (24, 12, 8, 6, 4, 3, 2, 1):
-        if tuple(Fraction(a, parts) % 1 for a in direction) in centrings:
-            return Fraction(1, parts)
-    raise ValueError("the lattice lacks its whole translations")
+def _upright_axis(position: Pair, found: list[tuple[str, Fraction, Fraction]], period: Fraction) -> UprightAxis:
+    symbol = _axis_symbol(found)
+    named = symbol if symbol in ("-4", "-6") else "-1"
+    return UprightAxis(position, symbol, tuple(sorted({height % (period / 2) for kind, _, height in found if kind == named})))
 
 
-def _along_axis(group: Group, axis: tuple[int, ...], operation: Operation, point: Vector, intrinsic: Vector) -> _OnAxis:
-    step = _least_translation(group.centrings, axis)
-    at = next(i for i in range(3) if axis[i] != 0)
-    screw = intrinsic[at] / axis[at] / step
-    turns_left = operation.kind in ("-1", "2", "m") or _turns_left(operation, axis) != operation.kind.startswith("-")
-    return _OnAxis(operation.kind, screw if turns_left else -screw, point[2])
+def _flat_axes(lines: dict, period: Fraction) -> Iterator[FlatAxis]:
+    by_symbol = defaultdict(set)
+    for (line, slope, height), found in lines.items():
+        by_symbol[line, slope, _axis_symbol(found).removesuffix("/m")].add(height)
+    for (line, slope, symbol), heights in by_symbol.items():
+        again = period / 2 if all((height + period / 2) % period in heights for height in heights) else period
+        yield FlatAxis(line, symbol, tuple(sorted({height % again for height in heights})), slope, again)
 
 
-def _line_through(direction: tuple[int, int], point: Vector) -> tuple[Line, int]:
-    """The line through the point, and the whole m for which the point is on it."""
-    common = gcd(*direction)
-    normal = (direction[1] // common, -direction[0] // common)
+# ---- lines on paper
+
+def _whole_point(normal: tuple[int, int]) -> tuple[int, int]:
+    """Whole numbers with which the normal, which has no common divisor, gives 1."""
+    (a, b), (x, y) = normal, (1, 0)
+    u, v = 0, 1
+    while b:
+        q = a // b
+        a, b, x, u, y, v = b, a - q * b, u, x - q * u, v, y - q * v
+    return (x, y) if a == 1 else (-x, -y)
+
+
+def _line_through(direction: Sequence[Fraction | int], point: Vector) -> tuple[Line, int]:
+    """The line in that direction through the point, and the m of its copy that has the point."""
+    a, b = (int(d) for d in direction[:2])
+    normal = (b // gcd(a, b), -a // gcd(a, b))
     if normal < (0, 0):
         normal = (-normal[0], -normal[1])
     place = normal[0] * point[0] + normal[1] * point[1]
     return Line(normal, place % 1), place // 1
 
 
-def foot(line: Line) -> tuple[int, int]:
-    """A whole point at which the normal has the value 1."""
-    a, b = line.normal
-    for size in range(abs(a) + abs(b) + 1):
-        for i, j in ((i, j) for i in range(-size, size + 1) for j in range(-size, size + 1)):
-            if a * i + b * j == 1:
-                return i, j
-    raise ValueError("the normal has a common divisor")
+def _flat_line(axis: Sequence[int], point: Vector) -> tuple[Line, Fraction, Fraction]:
+    """The line of a flat axis through the point, its slope, and its height above the foot."""
+    line, m = _line_through(axis, point)
+    at = 0 if line.direction[0] else 1
+    slope = Fraction(axis[2] * line.direction[at], axis[at])
+    return line, slope, point[2] - slope * (point[at] - line.point(m, 0)[at]) / line.direction[at]
 
+
+# ---- planes
 
 def _glides(lattice: set[Pair], part: Pair, cells: int) -> tuple[Glide, list[Pair]]:
     """What a plane does, and all its glides: those that differ from `part` by a translation of the lattice in the plane, which
@@ -256,8 +280,8 @@ def _glides(lattice: set[Pair], part: Pair, cells: int) -> tuple[Glide, list[Pai
 
 def _upright_plane(group: Group, operation: Operation, point: Vector, intrinsic: Vector) -> UprightPlane:
     (a, b, _), (c, d, _), _ = operation.map.matrix
-    row = (a - 1, b) if (a - 1, b) != (0, 0) else (c, d - 1)
-    line, _ = _line_through((-int(row[1]), int(row[0])), point)
+    across = (a - 1, b) if (a, b) != (1, 0) else (c, d - 1)
+    line, _ = _line_through((-across[1], across[0]), point)
     a, b = line.direction
     steps = [Fraction(n, _FINEST) for n in range(_FINEST)]
     lattice = {(s, c[2]) for s in steps for c in group.centrings if (s * a % 1, s * b % 1) == c[:2]}
@@ -268,9 +292,9 @@ def _upright_plane(group: Group, operation: Operation, point: Vector, intrinsic:
     return UprightPlane(line, glide, 1 if along < Fraction(1, 2) else -1)
 
 
-def _flat_plane(group: Group, operation: Operation, point: Vector, intrinsic: Vector, period: Fraction) -> FlatPlane:
+def _flat_plane(group: Group, operation: Operation, point: Vector, intrinsic: Vector) -> FlatPlane:
     # A vector of the plane is fixed by W: its height is half of tilt . (down, right).
-    tilt = operation.map.matrix[2][:2]
+    tilt, period = operation.map.matrix[2][:2], least_translation(group, _UP)
     lattice = set()
     for c, m, n in choices(group.centrings, range(2), range(2)):
         u, v = c[0] + m, c[1] + n
@@ -282,68 +306,3 @@ def _flat_plane(group: Group, operation: Operation, point: Vector, intrinsic: Ve
     vectors = {Glide.MIRROR: (), Glide.BOTH: (along, across)}.get(glide, (along or across or shortest[0],))
     height = point[2] - (tilt[0] * point[0] + tilt[1] * point[1]) / 2
     return FlatPlane(height % (period / 2), glide, vectors)
-
-
-def _flat_axes(group: Group, found: dict, period: Fraction) -> Iterator[FlatAxis]:
-    by_symbol = defaultdict(set)
-    for (line, slope, height), operations in found.items():
-        by_symbol[line, slope, _axis_symbol(operations).removesuffix("/m")].add(height)
-    for (line, slope, symbol), heights in by_symbol.items():
-        if {(h + period / 2) % period for h in heights} == heights:
-            heights = {h % (period / 2) for h in heights}
-        yield FlatAxis(line, symbol, tuple(sorted(heights)), slope)
-
-
-def _flat_axis_at(axis: tuple[int, ...], point: Vector) -> tuple[Line, Fraction, Fraction]:
-    """The line of a flat axis through the point, the slope, and the height where the line passes its foot."""
-    u = tuple(int(a) for a in axis)
-    line, whole = _line_through(u[:2], point)
-    at = 0 if line.direction[0] != 0 else 1
-    slope = Fraction(u[2] * line.direction[at], u[at])
-    start = [f * (line.offset + whole) for f in foot(line)]
-    return line, slope, point[2] - slope * (point[at] - start[at]) / line.direction[at]
-
-
-def elements(group: Group) -> Elements:
-    """The elements of a turned group."""
-    period = _least_translation(group.centrings, (0, 0, 1))
-    upright, flat, inclined = defaultdict(list), defaultdict(list), set()
-    upright_planes, flat_planes = set(), set()
-
-    for operation in group.operations:
-        if operation.kind == "1":
-            continue
-        if operation.kind == "-1":
-            for point, intrinsic in located(operation):
-                upright[point[0] % 1, point[1] % 1].append(_OnAxis("-1", Fraction(0), point[2]))
-            continue
-        n = _rotation_order(operation.kind)
-        up = times(_combination((Fraction(1, n), power) for power in _powers(_proper(operation), n)), _UP)
-        if up not in (_UP, (0, 0, 0)):
-            inclined.add(operation.kind)
-            continue
-        for point, intrinsic in located(operation):
-            if operation.kind == "m" and up == _UP:
-                flat_planes.add(_flat_plane(group, operation, point, intrinsic, period))
-            elif operation.kind == "m":
-                upright_planes.add(_upright_plane(group, operation, point, intrinsic))
-            elif up == _UP:
-                upright[point[0] % 1, point[1] % 1].append(_along_axis(group, (0, 0, 1), operation, point, intrinsic))
-            else:
-                line, slope, height = _flat_axis_at(operation.axis, point)
-                entry = _along_axis(group, operation.axis, operation, point, intrinsic)
-                for turn in range(slope.denominator):
-                    flat[line, slope, (height + turn * slope) % period].append(entry)
-
-    axes = []
-    for position, found in upright.items():
-        symbol = _axis_symbol(found)
-        axes.append(UprightAxis(position, symbol, _heights(found, symbol, period)))
-    return Elements(
-        tuple(sorted(axes, key=lambda axis: axis.position)),
-        tuple(sorted(upright_planes, key=lambda plane: (plane.line.normal, plane.line.offset))),
-        tuple(sorted(_flat_axes(group, flat, period), key=lambda axis: (axis.line.normal, axis.line.offset, axis.symbol))),
-        tuple(sorted(flat_planes, key=lambda plane: plane.height)),
-        period,
-        tuple(sorted(inclined)),
-    )

@@ -1,4 +1,4 @@
-"""The graphical symbols of symmetry elements, as SVG text (ITA 2.1.2), and what each of them means in words.
+"""The graphical symbols of symmetry elements (ITA 2.1.2), as SVG text, and what each of them means in words.
 
 Places and sizes are in pixels, x to the right and y downwards. The shapes are those of U. Mueller's font `cryst`: a polygon for
 each order, a tail at every vertex where a screw axis comes after so many of its steps, a white circle for an inversion point.
@@ -11,9 +11,11 @@ from math import cos, gcd, hypot, pi, sin
 
 from .elements import Glide
 
+Way = tuple[float, float]
+
 INK = "#111"
 FONT = "Helvetica, Arial, 'Liberation Sans', 'DejaVu Sans', sans-serif"
-SIZE = 6.5  # the radius of a fourfold axis, to which the others are fitted
+SIZE = 6.5  # the radius of a fourfold axis; the others are fitted to it
 
 _FRACTIONS = {
     (1, 2): "½", (1, 4): "¼", (3, 4): "¾", (1, 3): "⅓", (2, 3): "⅔", (1, 6): "⅙", (5, 6): "⅚",
@@ -29,12 +31,6 @@ _STYLES = {
     Glide.QUARTER: "8 3 1.4 3",
 }
 
-MEANINGS = {
-    "-1": "inversion point",
-    "-3": "threefold axis with inversion point",
-    "-4": "fourfold rotoinversion axis",
-    "-6": "sixfold rotoinversion axis (3/m)",
-}
 UPRIGHT_PLANES = {
     Glide.MIRROR: "mirror plane",
     Glide.ALONG: "glide plane: half a translation along the line",
@@ -53,17 +49,15 @@ FLAT_PLANES = {
 }
 
 
-def meaning(symbol: str) -> str:
-    """What an upright axis of that name is."""
-    if symbol in MEANINGS:
-        return MEANINGS[symbol]
-    axis, inversion = symbol.removesuffix("/m"), symbol.endswith("/m")
-    order = {"2": "twofold", "3": "threefold", "4": "fourfold", "6": "sixfold"}[axis[0]]
-    if "_" in axis:
-        words = f"{order} screw axis, {fraction(Fraction(int(axis[2]), int(axis[0])))} upwards"
-    else:
-        words = f"{order} axis"
-    return words + (", with inversion point" if inversion else "")
+def axis_meaning(symbol: str) -> str:
+    """What an axis of that name is."""
+    if symbol == "-1":
+        return "inversion point"
+    order = {"2": "twofold", "3": "threefold", "4": "fourfold", "6": "sixfold"}[symbol.lstrip("-")[0]]
+    if symbol.startswith("-"):
+        return f"{order} rotoinversion axis" + {"-3": ", a threefold axis with inversion points", "-6": ", 3/m"}.get(symbol, "")
+    screw = f"{order} screw axis, {fraction(Fraction(int(symbol[2]), int(symbol[0])))} of a translation" if "_" in symbol else ""
+    return (screw or f"{order} axis") + (", with inversion points" if symbol.endswith("/m") else "")
 
 
 def fraction(value: Fraction) -> str:
@@ -82,16 +76,16 @@ def tag(name: str, content: str = "", **attributes: object) -> str:
 
 
 def text(x: float, y: float, content: str, size: float = 11, anchor: str = "start", **attributes: object) -> str:
-    return tag("text", content, x=x, y=y, font_size=float(size), text_anchor=anchor, **attributes)
+    return tag("text", content, x=x, y=y, font_size=float(size), text_anchor=anchor, **attributes) if content else ""
 
 
-def segment(start: tuple[float, float], end: tuple[float, float], width: float, **attributes: object) -> str:
+def segment(start: Way, end: Way, width: float, **attributes: object) -> str:
     return tag(
         "line", x1=start[0], y1=start[1], x2=end[0], y2=end[1], stroke=INK, stroke_width=width, **attributes
     )
 
 
-def _path(points: list[tuple[float, float]], **attributes: object) -> str:
+def _path(points: list[Way], **attributes: object) -> str:
     drawn = "M" + "L".join(f"{x:.2f} {y:.2f}" for x, y in points) + "Z"
     return tag("path", d=drawn, **attributes)
 
@@ -102,7 +96,7 @@ def circle(x: float, y: float, radius: float, fill: str = "#fff", width: float =
 
 # ---- axes seen end on
 
-def _polygon(x: float, y: float, n: int, radius: float) -> list[tuple[float, float]]:
+def _polygon(x: float, y: float, n: int, radius: float) -> list[Way]:
     """The vertices counter-clockwise from the topmost one."""
     return [(x - radius * sin(2 * pi * i / n), y - radius * cos(2 * pi * i / n)) for i in range(n)]
 
@@ -156,13 +150,13 @@ def axis(symbol: str, x: float, y: float, size: float = SIZE) -> str:
 
 # ---- axes and planes in the paper, planes seen edge on
 
-def _barb(tip: tuple[float, float], way: tuple[float, float], side: int, size: float) -> str:
+def _barb(tip: Way, way: Way, side: int, size: float) -> str:
     (x, y), (dx, dy) = tip, way
     back = (x - size * dx - side * 0.42 * size * dy, y - size * dy + side * 0.42 * size * dx)
     return _path([(x, y), back, (x - 0.75 * size * dx, y - 0.75 * size * dy)], fill=INK)
 
 
-def arrow(start: tuple[float, float], way: tuple[float, float], length: float, half: bool = False, size: float = 7.0) -> str:
+def arrow(start: Way, way: Way, length: float, half: bool = False, size: float = 7.0) -> str:
     """An arrow by the unit vector `way`; a half one has its barb to the right of it."""
     tip = (start[0] + length * way[0], start[1] + length * way[1])
     neck = (tip[0] - 0.6 * size * way[0], tip[1] - 0.6 * size * way[1])
@@ -170,7 +164,19 @@ def arrow(start: tuple[float, float], way: tuple[float, float], length: float, h
     return drawn if half else drawn + _barb(tip, way, -1, size)
 
 
-def plane_line(start: tuple[float, float], end: tuple[float, float], glide: Glide, way: int = 0) -> str:
+def flat_axis(symbol: str, start: Way, way: Way, label: str = "") -> str:
+    """The end of an axis in the paper, with its height beyond it: an arrow for 2, half of one for 2_1, else a stub with the
+    symbol that the axis has when it is upright. All of it is 17 pixels long, and the label more."""
+    (x, y), (dx, dy) = start, way
+    if symbol in ("2", "2_1"):
+        drawn = arrow(start, way, 15.0, half=symbol == "2_1")
+    else:
+        drawn = segment(start, (x + 9 * dx, y + 9 * dy), 1.0) + axis(symbol, x + 10 * dx, y + 10 * dy, size=4.6)
+    gap = 18 + (3 + 5 * len(label)) / 2
+    return drawn + text(x + gap * dx, y + 21 * dy + 3.5, label, 10, "middle")
+
+
+def plane_line(start: Way, end: Way, glide: Glide, way: int = 0) -> str:
     """An upright plane; the arrow of a diamond glide goes from start to end where `way` is 1, and back where it is -1."""
     style = {"stroke_dasharray": _STYLES[glide]} if _STYLES[glide] else {}
     drawn = segment(start, end, 1.7 if glide is Glide.MIRROR else 1.4, **style)
@@ -186,7 +192,7 @@ def plane_line(start: tuple[float, float], end: tuple[float, float], glide: Glid
     return drawn
 
 
-def corner(x: float, y: float, arms: tuple[tuple[float, float], tuple[float, float]], arrows: list[tuple[float, float]]) -> str:
+def corner(x: float, y: float, arms: tuple[Way, Way], arrows: list[Way]) -> str:
     """A plane in the paper: a corner with arms by these unit vectors, and an arrow by each vector of a glide."""
     drawn = "".join(segment((x, y), (x + 15 * dx, y + 15 * dy), 1.5, stroke_linecap="round") for dx, dy in arms)
     return drawn + "".join(arrow((x, y), way, 21.0) for way in arrows)

@@ -1,4 +1,4 @@
-"""The cell of a group seen along one of its axes: which axis points where, and how long and oblique the paper's axes are.
+"""The cell of a group seen along one of its axes: where points come to lie on paper.
 
 The reader looks against the axis of projection, which points at him. Of the other two the one that follows it in the cycle
 a, b, c points down, and the next one to the right; so along c it is a down and b right, as in ITA 2.1.3.6.
@@ -6,26 +6,27 @@ a, b, c points down, and the next one to the right; so along c it is a down and 
 
 from __future__ import annotations
 
-from collections.abc import Iterable
+from collections.abc import Iterable, Sequence
 from dataclasses import dataclass
 from fractions import Fraction
-from math import sqrt
+from itertools import product as choices
+from math import hypot, sqrt
 
 from .answers import Affine, Group, Matrix, Operation, Row, Vector
 
 # Lengths 20, 23 and 26 with angles of 100 degrees: what the lattice leaves free is drawn so.
 _FREE = ((400, -80, -90), (-80, 529, -104), (-90, -104, 676))
+_STEPS = 48  # the points that are tried for a general one are multiples of this part of a cell
 
 
 def metric(matrices: Iterable[Matrix]) -> Matrix:
     """A metric that every matrix of a point group keeps: the sum of W^T G W, for the free metric G."""
     total = [[Fraction(0)] * 3 for _ in range(3)]
     for w in matrices:
-        for i in range(3):
-            for j in range(i, 3):
-                total[i][j] += sum(w[k][i] * _FREE[k][m] * w[m][j] for k in range(3) for m in range(3) if w[k][i] and w[m][j])
-                total[j][i] = total[i][j]
-    return tuple(tuple(row) for row in total)
+        for i, j, k, m in choices(range(3), repeat=4):
+            if w[k][i] and w[m][j]:
+                total[i][j] += w[k][i] * _FREE[k][m] * w[m][j]
+    return tuple(map(tuple, total))
 
 
 def _order(axis: str) -> tuple[int, int, int]:
@@ -34,46 +35,43 @@ def _order(axis: str) -> tuple[int, int, int]:
     return (at + 1) % 3, (at + 2) % 3, at
 
 
-def _turn_map(map: Affine, order: tuple[int, int, int]) -> Affine:
+def turned_map(map: Affine, axis: str) -> Affine:
+    order = _order(axis)
     return Affine(tuple(tuple(map.matrix[i][j] for j in order) for i in order), tuple(map.shift[i] for i in order))
 
 
 def turned(group: Group, axis: str) -> Group:
     """The group with its coordinates in the order down, right, up: projected along `axis`, the third one is the height."""
-    order = _order(axis)
 
     def turn(vector: Vector) -> Vector:
-        return tuple(vector[i] for i in order)
+        return tuple(vector[i] for i in _order(axis))
 
-    operations = tuple(
-        Operation(_turn_map(o.map, order), o.kind, turn(o.intrinsic), o.axis and turn(o.axis)) for o in group.operations
+    return Group(
+        tuple(
+            Operation(turned_map(o.map, axis), o.kind, turn(o.intrinsic), o.axis and turn(o.axis)) for o in group.operations
+        ),
+        tuple(Row(row.place, row.multiplicity, row.text, turned_map(row.map, axis)) for row in group.rows),
     )
-    rows = tuple(Row(row.place, row.multiplicity, row.text, _turn_map(row.map, order)) for row in group.rows)
-    return Group(operations, rows)
 
 
 @dataclass(frozen=True)
 class Projection:
-    """Where points of a turned group come to lie on paper: x to the right and y downwards, in pixels from the origin."""
+    """Where points of a turned group come to lie on paper: x to the right and y downwards, in pixels from the origin. The names
+    and letters are those of the axes and coordinates in the order down, right, up."""
 
     down: tuple[float, float]
     right: tuple[float, float]
-    names: tuple[str, str, str]
-    letters: tuple[str, str, str]
+    names: tuple[str, ...]
+    letters: tuple[str, ...]
 
     def place(self, down: Fraction | float, right: Fraction | float) -> tuple[float, float]:
         u, v = float(down), float(right)
         return u * self.down[0] + v * self.right[0], u * self.down[1] + v * self.right[1]
 
     def box(self) -> tuple[float, float, float, float]:
-        """The least x and y and the greatest ones of the cell."""
-        corners = [self.place(u, v) for u in (0, 1) for v in (0, 1)]
-        return (
-            min(x for x, _ in corners),
-            min(y for _, y in corners),
-            max(x for x, _ in corners),
-            max(y for _, y in corners),
-        )
+        """The least x and y of the cell, and the greatest ones."""
+        xs, ys = zip(*(self.place(u, v) for u, v in choices((0, 1), repeat=2)))
+        return min(xs), min(ys), max(xs), max(ys)
 
 
 def projection(group: Group, axis: str, size: float) -> Projection:
@@ -84,11 +82,56 @@ def projection(group: Group, axis: str, size: float) -> Projection:
     """
     g = metric({o.map.matrix for o in group.operations})
     i, j, k = order = _order(axis)
-    length_i, length_j = (sqrt(g[n][n] - g[n][k] ** 2 / g[k][k]) for n in (i, j))
-    along = float(g[i][j] - g[i][k] * g[j][k] / g[k][k]) / length_j
-    down, right = (along, sqrt(max(length_i**2 - along**2, 0.0))), (length_j, 0.0)
-    scale = size / max(length_i, length_j)
+    down, right = (sqrt(g[n][n] - g[n][k] ** 2 / g[k][k]) for n in (i, j))
+    along = float(g[i][j] - g[i][k] * g[j][k] / g[k][k]) / right
+    scale = size / max(down, right)
     names = tuple("abc"[n] + ("ₚ" if n != k and g[n][k] != 0 else "") for n in order)
     return Projection(
-        (down[0] * scale, down[1] * scale), (right[0] * scale, 0.0), names, tuple("xyz"[n] for n in order)
+        (along * scale, sqrt(down**2 - along**2) * scale), (right * scale, 0.0), names, tuple("xyz"[n] for n in order)
     )
+
+
+def clear_point(maps: Sequence[Affine], paper: Projection, wanted: float) -> tuple[Vector, float]:
+    """A point whose images under the turned maps lie well apart on the paper, and how far apart they are, in pixels.
+
+    It is the one nearest to the origin where that is as `wanted`, or else the one where it is most. To the right a pixel
+    counts less than one, since heights stand there.
+    """
+    mixing = any(m.matrix[2][0] or m.matrix[2][1] or m.matrix[0][2] or m.matrix[1][2] for m in maps)
+
+    def numbers(m: Affine) -> tuple[float, ...]:
+        return tuple(float(entry) for row, shift in zip(m.matrix[:2], m.shift) for entry in (*row, shift))
+
+    # Two images are as far apart as one of these starts and another image: each height letter has one.
+    starts = {tuple(map(abs, m.matrix[2])): numbers(m) for m in reversed(maps)}.values()
+    images = {numbers(m) for m in maps}
+    steps = [n / _STEPS for n in range(2, _STEPS // 4 if mixing else _STEPS // 2)]
+    heights = steps if mixing else [0.1]
+    best, distance = (0.1, 0.1, 0.1), -1.0
+    for point in sorted(choices(steps, steps, heights), key=lambda p: (hypot(*paper.place(p[0], p[1])), p[2])):
+        least = min(_nearest(start, images, point, paper, distance) for start in starts)
+        if least > distance:
+            best, distance = point, least
+        if least >= wanted:
+            break
+    return tuple(Fraction(round(10 * _STEPS * c), 10 * _STEPS) for c in best), distance
+
+
+def _nearest(start: tuple[float, ...], images: set[tuple[float, ...]], point: Sequence[float], paper: Projection, enough: float) -> float:
+    """The least distance on paper between the image by `start` and those by the others; any value up to `enough` if it is so."""
+    x, y, z = point
+
+    def at(m: tuple[float, ...]) -> tuple[float, float]:
+        return m[0] * x + m[1] * y + m[2] * z + m[3], m[4] * x + m[5] * y + m[6] * z + m[7]
+
+    (u, v), least = at(start), 1e9
+    for image in images:
+        if image != start:
+            s, t = at(image)
+            du, dv = (s - u) % 1.0, (t - v) % 1.0
+            for p, q in ((du, dv), (du - 1, dv), (du, dv - 1), (du - 1, dv - 1)):
+                right, down = paper.place(p, q)
+                least = min(least, hypot(right / 1.5, down))
+            if least <= enough:
+                break
+    return least
