@@ -11,6 +11,7 @@ import subprocess
 from collections.abc import Callable, Sequence
 from dataclasses import dataclass
 from fractions import Fraction
+from functools import cached_property
 
 Vector = tuple[Fraction, ...]
 Matrix = tuple[tuple[Fraction, ...], ...]
@@ -83,7 +84,7 @@ class Group:
     operations: tuple[Operation, ...]
     rows: tuple[Row, ...]
 
-    @property
+    @cached_property
     def centrings(self) -> frozenset[Vector]:
         """The translations of the lattice, each coordinate from 0 to below 1."""
         return frozenset(o.map.shift for o in self.operations if o.kind == "1")
@@ -116,7 +117,7 @@ def affine_text(map: Affine) -> str:
 
 
 def times(matrix: Matrix, vector: Sequence[Fraction | int]) -> Vector:
-    return tuple(sum((m * v for m, v in zip(row, vector)), Fraction(0)) for row in matrix)
+    return tuple(sum((m * v for m, v in zip(row, vector) if m and v), Fraction(0)) for row in matrix)
 
 
 def product(left: Matrix, right: Matrix) -> Matrix:

@@ -18,7 +18,7 @@ WIDE_CELL = 460.0  # that of a crowded one
 CROWDED = 40  # so many points at different places of the paper are not yet a crowd
 APART = 28.0  # how far apart points are wished to be
 BEYOND = 34.0  # how far beyond the cell points are shown
-GAP = 50.0  # how far beyond its end an axis has its name, where nothing reaches further
+GAP = 56.0  # how far beyond its end an axis has its name, where nothing reaches further
 
 Way = tuple[float, float]
 
@@ -135,7 +135,8 @@ def draw_elements(paper: Projection, found: Elements) -> Svg:
             x, y = paper.place(*copy)
             border.append(glyphs.axis(axis.symbol, x, y))
             reach = 4 if axis.symbol == "-1" else 7
-            labels.append(glyphs.text(x + reach, y - reach + 1, _listed(axis.heights), 9.5))
+            halo = {"stroke": "#fff", "stroke_width": 2.5, "paint_order": "stroke"}
+            labels.append(glyphs.text(x + reach, y - reach + 1, _listed(axis.heights), 9.5, **halo))
     corners = _corners(paper, found.flat_planes, paper.box()[1] - gap - 14 - strip)
     return _picture(paper, gap, strip, drawn + border + labels + corners)
 

@@ -186,8 +186,8 @@ def located(operation: Operation) -> Iterator[tuple[Vector, Vector]]:
 
 def least_translation(group: Group, direction: Sequence[int]) -> Fraction:
     """The least multiple of the direction, which is whole and without a common divisor, that is a translation of the lattice."""
-    parts = (n for n in range(_FINEST, 0, -1) if tuple(Fraction(d, n) % 1 for d in direction) in group.centrings)
-    return Fraction(1, next(parts))
+    centrings = group.centrings
+    return Fraction(1, next(n for n in range(_FINEST, 0, -1) if tuple(Fraction(d, n) % 1 for d in direction) in centrings))
 
 
 def _screw(group: Group, operation: Operation, axis: Sequence[int], intrinsic: Vector) -> Fraction:
