@@ -78,6 +78,11 @@ class Row:
     text: str
     map: Affine
 
+    @property
+    def is_fixed(self) -> bool:
+        """Whether its points have no free coordinate."""
+        return not any(map(any, self.map.matrix))
+
 
 @dataclass(frozen=True)
 class Group:
@@ -91,9 +96,11 @@ class Group:
 
 
 def free_form(map: Affine) -> Affine:
-    """The same points by free coordinates, as tables print them: B z + t - B t. A coordinate is free where some vector of the
-    map's image has 0 in all coordinates before it and not in it. Its column of B is such a vector, with 1 in that coordinate and
-    0 in every other free one; the other columns are zero."""
+    """The same points by free coordinates, as tables print them: B z + t - B t.
+
+    A coordinate is free where some vector of the map's image has 0 in all coordinates before it and not in it. Its column of B
+    is such a vector, with 1 in that coordinate and 0 in every other free one; the other columns are zero.
+    """
     columns, found = [list(column) for column in zip(*map.matrix)], {}
     for i in range(3):
         lead = next((column for column in columns if column[i] != 0), None)
@@ -152,7 +159,8 @@ def _read_row(line: str) -> Row:
 
 
 def run_program(words: Sequence[str], text: str) -> tuple[int, str, str]:
-    """Calls the program that the environment's SG names, else the `sg` on the path, which on many systems is another program."""
+    """Calls the program that SG of the environment names, else `sg` on the path. Many systems have another program there that
+    is called so, and which knows no such words."""
     program = os.environ.get("SG") or "sg"
     done = subprocess.run([program, *words], input=text, capture_output=True, text=True, check=False)
     return done.returncode, done.stdout, done.stderr

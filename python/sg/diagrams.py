@@ -9,18 +9,19 @@ from itertools import product as choices
 from math import hypot
 
 from . import glyphs
-from .answers import Affine, Group, Vector, free_form
-from .elements import Elements, FlatAxis, FlatPlane, Line, elements
+from .answers import Affine, Group, free_form
+from .elements import Elements, FlatPlane, Line, elements
 from .projection import Projection, clear_point, projection, turned, turned_map
 
 CELL = 260.0  # the longer axis of a drawn cell
-WIDE_CELL = 460.0  # that of a crowded one
+WIDE_CELL = 520.0  # that of a crowded one
 CROWDED = 40  # so many points at different places of the paper are not yet a crowd
-APART = 28.0  # how far apart points are wished to be
+APART = 27.0  # how far apart points are wished to be
 BEYOND = 34.0  # how far beyond the cell points are shown
 GAP = 56.0  # how far beyond its end an axis has its name, where nothing reaches further
 
 Way = tuple[float, float]
+Height = tuple[str, str]  # a constant and a variable part: `½` and `+` for z + 1/2, none and `−` for -z
 
 
 class Svg(str):
@@ -36,8 +37,8 @@ def symmetry_elements(group: Group, axis: str = "c") -> Svg:
 
 
 def general_position(group: Group, axis: str = "c") -> Svg:
-    """The orbit of a general point, projected along `axis`: a circle for each, with a comma where an improper operation makes it,
-    and its height beside it. Where two lie one above the other, the circle is cut in two."""
+    """The orbit of a general point, projected along `axis`: a circle for each point, with a comma where an improper operation
+    makes it, and its height beside it. Where points of either hand lie one above the other, the circle is cut in two."""
     seen = turned(group, axis)
     maps = [operation.map for operation in seen.operations]
     crowded = len({(map.matrix[:2], map.shift[:2]) for map in maps}) > CROWDED
@@ -49,17 +50,18 @@ def general_position(group: Group, axis: str = "c") -> Svg:
         places[place].append((operation.improper, _height(operation.map, paper.letters)))
 
     radius, drawn = min(7.0, max(2.4, distance / 4)), []
+    beside = not crowded and all(len("".join(height)) < 3 for images in places.values() for _, height in images)
     for place, images in places.items():
         sides = [[height for improper, height in images if improper is side] for side in (False, True)]
         for copy in _copies(place, paper, 0 if crowded else BEYOND):
-            drawn += _general_point(*paper.place(*copy), radius, sides, crowded)
-    return _picture(paper, GAP, 0, drawn)
+            drawn += _general_point(*paper.place(*copy), radius, sides, beside)
+    return _picture(paper, GAP / 2 if crowded else GAP, 0, drawn)
 
 
 def positions(group: Group, rows: Iterable[int] | None = None, axis: str = "c") -> Svg:
     """The points in a cell of rows of the table of Wyckoff positions, which are told by their places in it; without `rows`, of
     those that have no free coordinate. Beside a point stand its row's place, and the heights."""
-    chosen = set(rows) if rows is not None else {row.place for row in group.rows if not any(map(any, row.map.matrix))}
+    chosen = set(rows) if rows is not None else {row.place for row in group.rows if row.is_fixed}
     paper, seen = projection(group, axis, CELL), turned(group, axis)
     point = (Fraction(7, 60), Fraction(11, 60), Fraction(1, 12))
     places = defaultdict(lambda: defaultdict(set))
@@ -104,7 +106,7 @@ def _frame(paper: Projection, gap: float) -> str:
     (x, y), (u, v) = paper.down, _unit(paper.down)
     names = glyphs.text(x + gap * u, y + gap * v + 5, paper.names[0], 13, "middle", font_style="italic")
     names += glyphs.text(paper.right[0] + gap, 4.5, paper.names[1], 13, "middle", font_style="italic")
-    return sides + names + glyphs.text(-0.9 * gap, -0.8 * gap, "0", 12, "middle")
+    return sides + names
 
 
 def _unit(way: Way) -> Way:
@@ -142,7 +144,7 @@ def draw_elements(paper: Projection, found: Elements) -> Svg:
 
 
 def _crossings(line: Line) -> list[tuple[int, Fraction, Fraction]]:
-    """Where the copies of the line cross the cell: each copy's m, with the least and the greatest multiple of the line's direction
+    """Where the copies of the line cross the cell: the m of each, with the least and the greatest multiple of the direction
     there, counted from its foot. A copy that only touches a corner does not cross."""
     found, reach = [], sum(map(abs, line.normal))
     for m in range(-reach, reach + 1):
@@ -193,22 +195,23 @@ def _listed(heights: Sequence[Fraction]) -> str:
 
 # ---- points
 
-def _general_point(x: float, y: float, radius: float, sides: list[list[tuple[str, str]]], crowded: bool) -> list[str]:
+def _general_point(x: float, y: float, radius: float, sides: list[list[Height]], beside: bool) -> list[str]:
+    """The circle of the general points at one place. If `beside`, the heights of the two hands stand to either side of it."""
     proper, improper = sides
     size = max(6.0, min(10.0, 1.6 * radius))
     drawn = [glyphs.circle(x, y, radius, width=0.9 if radius > 4 else 0.7)]
     if proper and improper:
-        drawn.append(glyphs.segment((x, y - radius), (x, y + radius), 0.7) + glyphs.comma(x + radius / 2, y, radius / 3.4))
+        drawn.append(glyphs.segment((x, y - radius), (x, y + radius), 0.7) + glyphs.comma(x + radius / 2, y, radius / 3))
     elif improper:
-        drawn.append(glyphs.comma(x, y, radius / 2.8))
-    if proper and improper and not crowded:
+        drawn.append(glyphs.comma(x, y, radius / 2.3))
+    if proper and improper and beside:
         drawn.append(glyphs.text(x - radius - 1, y - radius * 0.55, _joined(proper), size, "end"))
         return drawn + [glyphs.text(x + radius + 1, y - radius * 0.55, _joined(improper), size)]
     return drawn + [glyphs.text(x + radius * 0.85, y - radius * 0.65, _joined(proper + improper), size)]
 
 
-def _height(map: Affine, letters: Sequence[str]) -> tuple[str, str]:
-    """The height of a map's points, as its constant and its variable part: `½` and `+` for z + 1/2, none and `−` for -z."""
+def _height(map: Affine, letters: Sequence[str]) -> Height:
+    """The height of a turned map's points."""
     row, shift = map.matrix[2], map.shift[2] % 1
     constant = glyphs.fraction(shift) if shift or not any(row) else ""
     signs = [("−" if factor < 0 else "+") + ("" if abs(factor) == 1 else glyphs.fraction(abs(factor))) for factor in row]
@@ -217,7 +220,7 @@ def _height(map: Affine, letters: Sequence[str]) -> tuple[str, str]:
     return constant, "".join(sign + letter for factor, sign, letter in zip(row, signs, letters) if factor)
 
 
-def _joined(heights: Iterable[tuple[str, str]]) -> str:
+def _joined(heights: Iterable[Height]) -> str:
     """The heights; those that differ by the sign alone as one with the sign ±."""
     left, words = list(dict.fromkeys(heights)), []
     while left:

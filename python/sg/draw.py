@@ -27,17 +27,27 @@ __all__ = ["Html", "Svg", "general_position", "positions", "read_group", "sheet"
 
 _LISTED = 48  # so many operators are printed
 
+_LEGEND_ARROWS: dict[Glide, list[tuple[float, float]]] = {
+    Glide.MIRROR: [],
+    Glide.ALONG: [(0, 1)],
+    Glide.ACROSS: [(1, 0)],
+    Glide.BOTH: [(0, 1), (1, 0)],
+    Glide.DIAGONAL: [(0.7, 0.7)],
+    Glide.QUARTER: [(0.7, 0.7)],
+}
+
 _STYLE = """
 body{font-family:Helvetica,Arial,'Liberation Sans','DejaVu Sans',sans-serif;font-size:10.5pt;color:#111;background:#fff;
 max-width:1060px;margin:24px auto;padding:0 16px}
 h1{font-size:17pt;font-weight:600;margin:0}h2{font-size:10.5pt;font-weight:600;margin:0 0 4px}p{margin:4px 0 12px}
 .note{color:#555;font-size:9pt}figure{margin:0}figure svg{max-width:100%;height:auto}
-.row{display:flex;flex-wrap:wrap;gap:12px 24px;align-items:flex-end;margin:14px 0}.row>*{flex:0 1 auto;min-width:0}
-.row.wide{gap:12px 48px}.row.wide>*{align-self:flex-start}
+.row{display:flex;gap:12px 24px;align-items:flex-end;margin:14px 0}.row>*{flex:0 1 auto;min-width:0}
+.row.wide{gap:12px 40px;align-items:flex-start}.two{columns:2;column-gap:40px}
 .legend{display:grid;grid-template-columns:repeat(auto-fill,minmax(310px,1fr));gap:2px 20px;font-size:9pt;margin:0 0 16px}
 .legend div{display:flex;align-items:center;gap:10px}.legend svg{flex:none}
 table{border-collapse:collapse;font-size:9.5pt}th{text-align:left;font-weight:600;border-bottom:1px solid #111}
 td,th{padding:2px 20px 2px 0;vertical-align:top}td.n,th.n{text-align:right}
+@media screen and (max-width:700px){.row{flex-wrap:wrap}.two{columns:1}}
 @page{margin:14mm}@media print{body{margin:0;padding:0;max-width:none}figure,tr,.legend div{break-inside:avoid}}
 """
 
@@ -52,28 +62,22 @@ class Html(str):
 def sheet(group: Group, title: str = "", axes: str = "c") -> Html:
     """A page without scripts that needs no other file: the diagrams along each of `axes`, a legend, the rows, the operators."""
     heading = escape(title or "Space group")
-    counts = ", ".join(
-        f"{count} {name}{'' if count == 1 else 's'}"
-        for count, name in (
-            (len(group.operations), "operator"),
-            (len(group.centrings), "translation"),
-            (len(group.rows), "Wyckoff position"),
-        )
-    )
+    counts = [(len(group.operations), "operator"), (len(group.centrings), "translation"), (len(group.rows), "Wyckoff position")]
     note = (
-        f"In a cell: {counts}. The axis of projection points at the reader, and heights are fractions of it; an element without"
-        " one has height 0. A general point x, y, z has a comma where an improper operation makes it. In its height a letter is that"
+        f"In a cell: {', '.join(f'{n} {name}' + 's' * (n != 1) for n, name in counts)}. The origin is the corner at the upper"
+        " left. The axis of projection points at the reader, and heights are fractions of it; an element without one has height"
+        " 0. A general point x, y, z has a comma where an improper operation makes it. In its height a letter is that"
         " coordinate, and + and − stand for the one along the axis of projection."
     )
     points = ""
-    if any(not any(map(any, row.map.matrix)) for row in group.rows):
-        caption = f"Positions without a free coordinate, along {axes[0]}: row and heights"
-        points = f"<figure><h2>{caption}</h2>{positions(group, None, axes[0])}</figure>"
+    if any(row.is_fixed for row in group.rows):
+        points = f"<figure><h2>Rows without a free coordinate, along {axes[0]}</h2>{positions(group, None, axes[0])}</figure>"
+    columns = "two" if len(group.operations) > 12 else "one"
     return Html(
-        '<!DOCTYPE html>\n<html lang="en"><head><meta charset="utf-8"><title>' + heading + f"</title><style>{_STYLE}</style></head>"
+        f'<!DOCTYPE html>\n<html lang="en"><head><meta charset="utf-8"><title>{heading}</title><style>{_STYLE}</style></head>'
         f'<body><h1>{heading}</h1><p class="note">{note}</p>{"".join(_diagrams(group, axis) for axis in axes)}'
         f'<div class="row wide"><div><h2>Wyckoff positions</h2>{_rows(group.rows, len(group.operations))}</div>{points}</div>'
-        f"<h2>Operators</h2>{_operations(group.operations)}</body></html>\n"
+        f'<h2>Operators</h2><div class="{columns}">{_operations(group.operations)}</div></body></html>\n'
     )
 
 
@@ -97,20 +101,19 @@ def _legend(found: Elements) -> str:
         entries.append((line, glyphs.UPRIGHT_PLANES[glide]))
     for symbol in sorted({axis.symbol for axis in found.flat_axes}):
         entries.append((glyphs.flat_axis(symbol, (12, 12), (1, 0)), f"{symbol} in the paper: {glyphs.axis_meaning(symbol)}"))
-    for glide, vectors in {plane.glide: plane.vectors for plane in found.flat_planes}.items():
-        arrows = [(float(right > 0), float(down > 0)) if not (down and right) else (0.7, 0.7) for down, right in vectors]
-        entries.append((glyphs.corner(12, 4, ((1, 0), (0, 1)), arrows), glyphs.FLAT_PLANES[glide]))
-    return '<div class="legend">' + "".join(
-        f'<div><svg width="40" height="26" viewBox="0 0 40 26">{drawn}</svg>{escape(words)}</div>' for drawn, words in entries
-    ) + "</div>"
+    for glide in dict.fromkeys(plane.glide for plane in found.flat_planes):
+        entries.append((glyphs.corner(12, 4, ((1, 0), (0, 1)), _LEGEND_ARROWS[glide]), glyphs.FLAT_PLANES[glide]))
+    items = (f'<div><svg width="40" height="28">{drawn}</svg>{escape(words)}</div>' for drawn, words in entries)
+    return f'<div class="legend">{"".join(items)}</div>'
 
 
 def _table(heads: Sequence[str], rows: Iterable[Sequence[object]], numbers: int) -> str:
-    """A table whose first columns, so many, are numbers."""
+    """A table whose first columns, so many, are numbers. A long cell is broken behind a comma."""
 
     def line(cells: Sequence[object], name: str) -> str:
-        marks = ['class="n"' if i < numbers else "" for i in range(len(cells))]
-        return "<tr>" + "".join(f"<{name} {mark}>{escape(str(cell))}</{name}>" for cell, mark in zip(cells, marks)) + "</tr>"
+        words = [escape(str(cell)).replace(",", ",<wbr>") for cell in cells]
+        starts = [f'<{name} class="n">' if i < numbers else f"<{name}>" for i in range(len(cells))]
+        return "<tr>" + "".join(f"{start}{word}</{name}>" for start, word in zip(starts, words)) + "</tr>"
 
     return f"<table>{line(heads, 'th')}{''.join(line(cells, 'td') for cells in rows)}</table>"
 
@@ -123,7 +126,8 @@ def _rows(rows: Sequence[Row], order: int) -> str:
 
 def _operations(operations: Sequence[Operation]) -> str:
     cells = (
-        (affine_text(o.map), o.kind, ",".join(map(str, o.intrinsic)), ",".join(map(str, o.axis or "-"))) for o in operations[:_LISTED]
+        (affine_text(o.map), o.kind, ",".join(map(str, o.intrinsic)), ",".join(map(str, o.axis or "-")))
+        for o in operations[:_LISTED]
     )
     more = len(operations) - _LISTED
     rest = f'<p class="note">.. and {more} more.</p>' if more > 0 else ""

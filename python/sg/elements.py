@@ -164,8 +164,8 @@ def _mean_rotation(operation: Operation) -> Matrix:
 
 
 def located(operation: Operation) -> Iterator[tuple[Vector, Vector]]:
-    """A point of the element, modulo the cell, and the screw or glide part, of the operation with whole shifts added to it: with
-    so many that the points are all there are, up to moves along the element.
+    """The elements of an operation with whole shifts added to it: a point of each, modulo the cell, and the screw or glide part
+    that the operation has with that shift.
 
     Without its intrinsic part v the operation has a fixed point, the mean of the images of the origin under its k powers:
     (1/k) sum of (k-1-i) W^i v over i from 0 to k-2 (ITA 1.2.2.4). A shift by k m is one by (I - W) m' for a whole m', up to
@@ -185,7 +185,7 @@ def located(operation: Operation) -> Iterator[tuple[Vector, Vector]]:
 
 
 def least_translation(group: Group, direction: Sequence[int]) -> Fraction:
-    """The least multiple of the direction, which is whole and without a common divisor, that is a translation of the lattice."""
+    """The least multiple of the direction that is a translation of the lattice. Its numbers have no common divisor."""
     centrings = group.centrings
     return Fraction(1, next(n for n in range(_FINEST, 0, -1) if tuple(Fraction(d, n) % 1 for d in direction) in centrings))
 
@@ -301,7 +301,8 @@ def _flat_plane(group: Group, operation: Operation, point: Vector, intrinsic: Ve
         if ((tilt[0] * u + tilt[1] * v) / 2 - c[2]).denominator == 1:
             lattice.add((u, v))
     glide, glides = _glides(lattice, (intrinsic[0], intrinsic[1]), 2)
-    shortest = sorted(((1 - (1 - u) % 2, 1 - (1 - v) % 2) for u, v in glides), key=lambda g: (abs(g[0]) + abs(g[1]), -g[0], -g[1]))
+    centred = [(1 - (1 - u) % 2, 1 - (1 - v) % 2) for u, v in glides]
+    shortest = sorted(centred, key=lambda glide: (abs(glide[0]) + abs(glide[1]), -glide[0], -glide[1]))
     along, across = (next((g for g in shortest if g[i] == 0), None) for i in (1, 0))
     vectors = {Glide.MIRROR: (), Glide.BOTH: (along, across)}.get(glide, (along or across or shortest[0],))
     height = point[2] - (tilt[0] * point[0] + tilt[1] * point[1]) / 2

@@ -55,9 +55,11 @@ def axis_meaning(symbol: str) -> str:
         return "inversion point"
     order = {"2": "twofold", "3": "threefold", "4": "fourfold", "6": "sixfold"}[symbol.lstrip("-")[0]]
     if symbol.startswith("-"):
-        return f"{order} rotoinversion axis" + {"-3": ", a threefold axis with inversion points", "-6": ", 3/m"}.get(symbol, "")
-    screw = f"{order} screw axis, {fraction(Fraction(int(symbol[2]), int(symbol[0])))} of a translation" if "_" in symbol else ""
-    return (screw or f"{order} axis") + (", with inversion points" if symbol.endswith("/m") else "")
+        return f"{order} rotoinversion axis" + {"-3": ", 3 with inversion points", "-6": ", 3/m"}.get(symbol, "")
+    words = f"{order} axis"
+    if "_" in symbol:
+        words = f"{order} screw axis, {fraction(Fraction(int(symbol[2]), int(symbol[0])))} of a translation"
+    return words + (", with inversion points" if symbol.endswith("/m") else "")
 
 
 def fraction(value: Fraction) -> str:
@@ -80,9 +82,8 @@ def text(x: float, y: float, content: str, size: float = 11, anchor: str = "star
 
 
 def segment(start: Way, end: Way, width: float, **attributes: object) -> str:
-    return tag(
-        "line", x1=start[0], y1=start[1], x2=end[0], y2=end[1], stroke=INK, stroke_width=width, **attributes
-    )
+    ends = {"x1": start[0], "y1": start[1], "x2": end[0], "y2": end[1]}
+    return tag("line", **ends, stroke=INK, stroke_width=width, **attributes)
 
 
 def _path(points: list[Way], **attributes: object) -> str:
@@ -139,7 +140,7 @@ def axis(symbol: str, x: float, y: float, size: float = SIZE) -> str:
         outline = _path(_polygon(x, y, 6, size * 1.1), fill="#fff", stroke=INK, stroke_width=1.0)
         return outline + _path(_polygon(x, y, 3, size * 1.1), fill=INK)
     name, inversion = symbol.removesuffix("/m"), symbol.endswith("/m") or symbol == "-3"
-    n, p = int(name.lstrip("-")[0]), int(name[2:] or 0) if "_" in name else 0
+    n, p = int(name.lstrip("-")[0]), int(name[2]) if "_" in name else 0
     if n == 2:
         drawn = _lens(x, y, 1.25 * size) + (_twofold_tails(x, y, 1.25 * size) if p else "")
     else:
@@ -165,8 +166,8 @@ def arrow(start: Way, way: Way, length: float, half: bool = False, size: float =
 
 
 def flat_axis(symbol: str, start: Way, way: Way, label: str = "") -> str:
-    """The end of an axis in the paper, with its height beyond it: an arrow for 2, half of one for 2_1, else a stub with the
-    symbol that the axis has when it is upright. All of it is 17 pixels long, and the label more."""
+    """The end of an axis in the paper, with the label beyond it: an arrow for 2, half of one for 2_1, else a stub with the
+    symbol of the upright axis."""
     (x, y), (dx, dy) = start, way
     if symbol in ("2", "2_1"):
         drawn = arrow(start, way, 15.0, half=symbol == "2_1")

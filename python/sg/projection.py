@@ -10,7 +10,7 @@ from collections.abc import Iterable, Sequence
 from dataclasses import dataclass
 from fractions import Fraction
 from itertools import product as choices
-from math import hypot, sqrt
+from math import hypot, inf, sqrt
 
 from .answers import Affine, Group, Matrix, Operation, Row, Vector
 
@@ -98,14 +98,10 @@ def clear_point(maps: Sequence[Affine], paper: Projection, wanted: float) -> tup
     counts less than one, since heights stand there.
     """
     mixing = any(m.matrix[2][0] or m.matrix[2][1] or m.matrix[0][2] or m.matrix[1][2] for m in maps)
-
-    def numbers(m: Affine) -> tuple[float, ...]:
-        return tuple(float(entry) for row, shift in zip(m.matrix[:2], m.shift) for entry in (*row, shift))
-
-    # Two images are as far apart as one of these starts and another image: each height letter has one.
-    starts = {tuple(map(abs, m.matrix[2])): numbers(m) for m in reversed(maps)}.values()
-    images = {numbers(m) for m in maps}
-    steps = [n / _STEPS for n in range(2, _STEPS // 4 if mixing else _STEPS // 2)]
+    images = {_numbers(m) for m in maps}
+    # Two images are as far apart as one of these and another image; for each way in which a height is made there is one.
+    starts = {max(m.matrix[2], tuple(-e for e in m.matrix[2])): _numbers(m) for m in reversed(maps)}.values()
+    steps = [n / _STEPS for n in (range(3, _STEPS // 2, 2) if mixing else range(2, _STEPS // 2))]
     heights = steps if mixing else [0.1]
     best, distance = (0.1, 0.1, 0.1), -1.0
     for point in sorted(choices(steps, steps, heights), key=lambda p: (hypot(*paper.place(p[0], p[1])), p[2])):
@@ -117,21 +113,29 @@ def clear_point(maps: Sequence[Affine], paper: Projection, wanted: float) -> tup
     return tuple(Fraction(round(10 * _STEPS * c), 10 * _STEPS) for c in best), distance
 
 
-def _nearest(start: tuple[float, ...], images: set[tuple[float, ...]], point: Sequence[float], paper: Projection, enough: float) -> float:
-    """The least distance on paper between the image by `start` and those by the others; any value up to `enough` if it is so."""
+_Numbers = tuple[float, ...]
+
+
+def _numbers(map: Affine) -> _Numbers:
+    """The first two rows of a map, each with its shift."""
+    return tuple(float(entry) for row, shift in zip(map.matrix[:2], map.shift) for entry in (*row, shift))
+
+
+def _nearest(start: _Numbers, images: set[_Numbers], point: Sequence[float], paper: Projection, enough: float) -> float:
+    """The least distance on paper between the image by `start` and those by the others, or else a value up to `enough` that it
+    does not exceed."""
     x, y, z = point
 
-    def at(m: tuple[float, ...]) -> tuple[float, float]:
+    def at(m: _Numbers) -> tuple[float, float]:
         return m[0] * x + m[1] * y + m[2] * z + m[3], m[4] * x + m[5] * y + m[6] * z + m[7]
 
-    (u, v), least = at(start), 1e9
-    for image in images:
-        if image != start:
-            s, t = at(image)
-            du, dv = (s - u) % 1.0, (t - v) % 1.0
-            for p, q in ((du, dv), (du - 1, dv), (du, dv - 1), (du - 1, dv - 1)):
-                right, down = paper.place(p, q)
-                least = min(least, hypot(right / 1.5, down))
-            if least <= enough:
-                break
+    (u, v), least = at(start), inf
+    for image in images - {start}:
+        s, t = at(image)
+        du, dv = (s - u) % 1.0, (t - v) % 1.0
+        for p, q in ((du, dv), (du - 1, dv), (du, dv - 1), (du - 1, dv - 1)):
+            right, down = paper.place(p, q)
+            least = min(least, hypot(right / 1.8, down))
+        if least <= enough:
+            break
     return least

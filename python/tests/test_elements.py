@@ -110,7 +110,8 @@ class Located(unittest.TestCase):
     def test_fm3m_leaves_out_what_is_inclined(self) -> None:
         found = seen(FM3M, "c")
         self.assertEqual(found.inclined, ("-3", "2", "3", "m"))
-        self.assertEqual([axes(found)[at] for at in ("0 0", "1/4 1/4", "0 1/4")], [("4/m", "0"), ("4_2/m", "0"), ("2_1/m", "1/4")])
+        named = [axes(found)[at] for at in ("0 0", "1/4 1/4", "0 1/4")]
+        self.assertEqual(named, [("4/m", "0"), ("4_2/m", "0"), ("2_1/m", "1/4")])
 
     def test_a_sheared_setting(self) -> None:
         """Under x + y, y, z the elements along c are those of before, carried over."""
