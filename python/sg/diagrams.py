@@ -16,7 +16,7 @@ from .projection import Projection, clear_point, projection, turned, turned_map
 CELL = 260.0  # the longer axis of a drawn cell
 WIDE_CELL = 520.0  # that of a crowded one
 CROWDED = 40  # so many points at different places of the paper are not yet a crowd
-APART = 27.0  # how far apart points are wished to be
+APART = 34.0  # how far apart points are wished to be
 BEYOND = 34.0  # how far beyond the cell points are shown
 GAP = 56.0  # how far beyond its end an axis has its name, where nothing reaches further
 
@@ -49,7 +49,7 @@ def general_position(group: Group, axis: str = "c") -> Svg:
         place = tuple(c % 1 for c in operation.map(point)[:2])
         places[place].append((operation.improper, _height(operation.map, paper.letters)))
 
-    radius, drawn = min(7.0, max(2.4, distance / 4)), []
+    radius, drawn = min(5.0 if crowded else 7.0, max(2.4, distance / 4)), []
     beside = not crowded and all(len("".join(height)) < 3 for images in places.values() for _, height in images)
     for place, images in places.items():
         sides = [[height for improper, height in images if improper is side] for side in (False, True)]
@@ -184,7 +184,8 @@ def _corners(paper: Projection, planes: Sequence[FlatPlane], top: float) -> list
     for i, plane in enumerate(planes):
         x, y = paper.box()[2] + 10 - 52 * i, top + 8
         drawn.append(glyphs.corner(x, y, arms, [_unit(paper.place(*vector)) for vector in plane.vectors]))
-        drawn.append(glyphs.text(x - 5, y + 9, _listed([plane.height]), 10, "end"))
+        room = 20 if any(paper.place(*vector)[0] < -1 for vector in plane.vectors) else 5
+        drawn.append(glyphs.text(x - room, y + 9, _listed([plane.height]), 10, "end"))
     return drawn
 
 
@@ -198,7 +199,7 @@ def _listed(heights: Sequence[Fraction]) -> str:
 def _general_point(x: float, y: float, radius: float, sides: list[list[Height]], beside: bool) -> list[str]:
     """The circle of the general points at one place. If `beside`, the heights of the two hands stand to either side of it."""
     proper, improper = sides
-    size = max(6.0, min(10.0, 1.6 * radius))
+    size = max(6.5, min(10.0, 1.5 * radius))
     drawn = [glyphs.circle(x, y, radius, width=0.9 if radius > 4 else 0.7)]
     if proper and improper:
         drawn.append(glyphs.segment((x, y - radius), (x, y + radius), 0.7) + glyphs.comma(x + radius / 2, y, radius / 3))

@@ -187,7 +187,7 @@ def plane_line(start: Way, end: Way, glide: Glide, way: int = 0) -> str:
     unit = (way * (end[0] - start[0]) / length, way * (end[1] - start[1]) / length)
     count = max(1, round(length / 110))
     for i in range(count):
-        share = (i + 0.5) / count
+        share = (i + 5 / 16) / count  # where no axis is
         tip = (start[0] + share * (end[0] - start[0]) + 5 * unit[0], start[1] + share * (end[1] - start[1]) + 5 * unit[1])
         drawn += _barb(tip, unit, 1, 9.0) + _barb(tip, unit, -1, 9.0)
     return drawn

@@ -16,7 +16,7 @@ from .answers import Affine, Group, Matrix, Operation, Row, Vector
 
 # Lengths 20, 23 and 26 with angles of 100 degrees: what the lattice leaves free is drawn so.
 _FREE = ((400, -80, -90), (-80, 529, -104), (-90, -104, 676))
-_STEPS = 48  # the points that are tried for a general one are multiples of this part of a cell
+_STEPS = 59  # a general point is sought among the multiples of this part of a cell, which no symmetry element has
 
 
 def metric(matrices: Iterable[Matrix]) -> Matrix:
@@ -92,25 +92,24 @@ def projection(group: Group, axis: str, size: float) -> Projection:
 
 
 def clear_point(maps: Sequence[Affine], paper: Projection, wanted: float) -> tuple[Vector, float]:
-    """A point whose images under the turned maps lie well apart on the paper, and how far apart they are, in pixels.
+    """A point with an image for each of the turned maps, which lie well apart on the paper; and how far apart, in pixels.
 
-    It is the one nearest to the origin where that is as `wanted`, or else the one where it is most. To the right a pixel
-    counts less than one, since heights stand there.
+    It is the one nearest to the origin where that is as `wanted`, or else the one where it is most.
     """
     mixing = any(m.matrix[2][0] or m.matrix[2][1] or m.matrix[0][2] or m.matrix[1][2] for m in maps)
     images = {_numbers(m) for m in maps}
     # Two images are as far apart as one of these and another image; for each way in which a height is made there is one.
     starts = {max(m.matrix[2], tuple(-e for e in m.matrix[2])): _numbers(m) for m in reversed(maps)}.values()
-    steps = [n / _STEPS for n in (range(3, _STEPS // 2, 2) if mixing else range(2, _STEPS // 2))]
-    heights = steps if mixing else [0.1]
-    best, distance = (0.1, 0.1, 0.1), -1.0
+    steps = [Fraction(n, _STEPS) for n in (range(3, 30, 3) if mixing else range(2, 30))]
+    heights = steps if mixing else [Fraction(5, _STEPS)]
+    best, distance = (steps[0], steps[1], steps[2]), -1.0
     for point in sorted(choices(steps, steps, heights), key=lambda p: (hypot(*paper.place(p[0], p[1])), p[2])):
         least = min(_nearest(start, images, point, paper, distance) for start in starts)
-        if least > distance:
+        if least > distance and len({tuple(c % 1 for c in map(point)) for map in maps}) == len(maps):
             best, distance = point, least
-        if least >= wanted:
-            break
-    return tuple(Fraction(round(10 * _STEPS * c), 10 * _STEPS) for c in best), distance
+            if least >= wanted:
+                break
+    return best, distance
 
 
 _Numbers = tuple[float, ...]
@@ -124,7 +123,7 @@ def _numbers(map: Affine) -> _Numbers:
 def _nearest(start: _Numbers, images: set[_Numbers], point: Sequence[float], paper: Projection, enough: float) -> float:
     """The least distance on paper between the image by `start` and those by the others, or else a value up to `enough` that it
     does not exceed."""
-    x, y, z = point
+    x, y, z = map(float, point)
 
     def at(m: _Numbers) -> tuple[float, float]:
         return m[0] * x + m[1] * y + m[2] * z + m[3], m[4] * x + m[5] * y + m[6] * z + m[7]
@@ -135,7 +134,7 @@ def _nearest(start: _Numbers, images: set[_Numbers], point: Sequence[float], pap
         du, dv = (s - u) % 1.0, (t - v) % 1.0
         for p, q in ((du, dv), (du - 1, dv), (du, dv - 1), (du - 1, dv - 1)):
             right, down = paper.place(p, q)
-            least = min(least, hypot(right / 1.8, down))
+            least = min(least, hypot(right, down))
         if least <= enough:
             break
     return least
