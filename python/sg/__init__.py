@@ -1,0 +1,1 @@
+"""`sg`, the space-group engine, from Python."""
