@@ -18,6 +18,6 @@ returns-clause-short c =
     let below : AreBelow (10 ^ 3) c.args.x c.args.y c.args.z = (omega (arith, few, h.first), omega (arith, few, h.second), omega (arith, few, h.third)) in
     let small = c.requires.parts in
     let length =
-        c.print_component.ensures.small 3 3 12 4 (omega arith) (omega arith) (omega arith) (omega arith) (below_passed (10 ^ 3) c.args.x c.args.y c.args.z c.args.parts p below) (omega (arith, few))
-        (subst (λ v. unsigned_abs v < 10 ^ 12) (sym p.constant) (omega (arith, small))) (omega (arith, few)) in
+    c.print_component.ensures.small 3 3 12 4 (omega arith) (omega arith) (omega arith) (omega arith) (below_passed (10 ^ 3) c.args.x c.args.y c.args.z c.args.parts p below) (omega (arith, few))
+    (subst (λ v. unsigned_abs v < 10 ^ 12) (sym p.constant) (omega (arith, small))) (omega (arith, few)) in
     omega (arith, length)
