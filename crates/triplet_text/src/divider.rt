@@ -1,4 +1,4 @@
-ghost use Rattle.std.specs.Prelude.{◌≡◌, ◌↔◌, ◌+◌, ◌<◌, ◌^◌, IsTrue, MatchOption, length};
+ghost use Rattle.std.specs.Prelude.{◌≡◌, ◌↔◌, ◌+◌, ◌≤◌, ◌<◌, ◌^◌, IsTrue, MatchOption, length};
 ghost use Rattle.triplet_text.specs.Dividers.{IsDivider, IsSplit};
 
 use crate::lines::cut_line;
@@ -9,7 +9,10 @@ use crate::pieces::without_blanks;
 /// lines than a u32 can count.
 pub fn split(bytes: &[u8]) -> Split
     requires { length bytes.now + 2 < 2 ^ 32 }
-    ensures { IsSplit bytes.now result }
+    ensures parts { IsSplit bytes.now result }
+    ensures head { result.head ≤ length bytes.now }
+    ensures tail { result.tail ≤ length bytes.now }
+    ensures line { result.line ≤ length bytes.now + 2 }
 {
     let mut head = 0;
     let mut line = 1u32;

@@ -33,9 +33,8 @@ pub use fraction::print_frac;
 pub use integer::{read_integer, read_natural};
 pub use laws::{
     affine_map_has_one_text, affine_text_has_one_map, affine_text_has_values,
-    affine_text_is_unique, coordinate_is_unique, division_is_unique,
-    equal_fractions_have_one_text, fraction_text_has_value, lines_are_divided,
-    lines_are_read_or_bad, triplet_is_unique,
+    affine_text_is_unique, coordinate_is_unique, division_is_unique, equal_fractions_have_one_text,
+    fraction_text_has_value, lines_are_divided, lines_are_read_or_bad, triplet_is_unique,
 };
 pub use lines::{LineFault, cut_line, is_skipped_line, read_lines};
 pub use pieces::{is_blank_byte, without_blanks_before};
