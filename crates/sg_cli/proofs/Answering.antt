@@ -1,5 +1,5 @@
 -- What each command answers over a group and data lines is sound: it has one outcome, and each refusal comes before the first byte.
-use Rattle.std.proofs.Common.{◌≡◌, ◌*◌, ℕ, List, length, refl, sym, ap, subst, ◌∙◌, arith, ⊎_elim}
+use Rattle.std.proofs.Common.{◌≡◌, ℕ, List, length, refl, sym, subst, ◌∙◌}
 use Rattle.lattice_algebra.specs.Operator.{Operator}
 use Rattle.lattice_algebra.specs.Point as rational
 use Rattle.exact_ops.specs.declared.TheConstants.{UNIT}

@@ -1,7 +1,6 @@
 -- Data lines decide what is gathered of them: values, or the first bad line.
-use Rattle.std.proofs.Common.{◌≡◌, ◌⊎◌, ℕ, List, [], ap, subst, ⊎_elim}
-use Rattle.std.proofs.lemmas.List.Elements.{All-nil}
-use Rattle.triplet_text.specs.Lines.{lines_of, IsSkipped, blank, IsGoodFor}
+use Rattle.std.proofs.Common.{◌≡◌, ℕ, List, [], ap, subst, ⊎_elim}
+use Rattle.triplet_text.specs.Lines.{lines_of, blank, IsGoodFor}
 use Rattle.triplet_text.proofs.Divisions.{said_lines, bad_lines}
 use Rattle.data_lines.specs.DataLines.{IsDataLine, AreWritten, IsFirstSuch, IsBadLine}
 use Rattle.data_lines.proofs.DataLaws.{no_bad_line, one_bad_line, same_values, WrittenOrNot, written_or_bad}

@@ -1,5 +1,5 @@
 -- From what the steps of a call did, by their outcomes, to what the stages of the answer say.
-use Rattle.std.proofs.Common.{◌≡◌, ◌≢◌, ◌⊎◌, ◌≤◌, ℕ, List, [], ◌++◌, length, take, drop, Result, Ok, Err, refl, inl, inr, arith}
+use Rattle.std.proofs.Common.{◌≡◌, ◌≤◌, ℕ, List, [], length, take, drop, Result, Ok, Err, refl, inl, inr, arith}
 use Rattle.std.specs.Prelude.{OnOk, OnErr, IsErrOf}
 use Rattle.std.proofs.lemmas.List.{append-nil}
 use Rattle.std.specs.Io.KnownBytes.{Appends}
@@ -43,9 +43,9 @@ use Rattle.sg_cli.specs.declared.fault.Fault.{Fault}
 use Rattle.sg_cli.specs.declared.fault.Fault.TheVariants as fault
 use Rattle.sg_cli.specs.Inputs.{DataLines, no_data}
 use Rattle.sg_cli.specs.Fault.{fault_of_lines, fault_of_close, fault_of_grid, fault_of_change, fault_of_recell, fault_of_atoms, fault_of_write}
-use Rattle.sg_cli.specs.Stages.{Gives, Refuses, Stage, holds, fails, ◌>>=◌, behind, refused}
+use Rattle.sg_cli.specs.Stages.{Gives, Refuses, Stage, holds, fails, behind, refused}
 use Rattle.sg_cli.specs.Answering.{gathered, bad, OverGrid, OverBasis, OverCell, OverSites, IsChangedText, IsExpandedText, Printing}
-use Rattle.sg_cli.specs.Answer.{Answer, Listing, listed, unreadable, not_unimodular, Closing, closed, unclosed, Over, OverLines}
+use Rattle.sg_cli.specs.Answer.{Answer, listed, unreadable, not_unimodular, closed, unclosed, Over, OverLines}
 use Rattle.sg_cli.specs.Run.{IsTold}
 use Rattle.sg_cli.specs.Steps.{IsDataText, AreCut, Answers, Counted}
 use Rattle.sg_cli.proofs.DataStages.{written_there, bad_there}

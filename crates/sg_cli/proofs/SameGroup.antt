@@ -3,7 +3,7 @@ use Rattle.std.proofs.Common.{◌≡◌, ◌≤◌, ℕ, List, length, inl, inr,
 use Rattle.std.proofs.lemmas.List.Elements.{All-weaker}
 use Rattle.lattice_algebra.specs.Operator.{Operator}
 use Rattle.lattice_algebra.specs.Point.{Point, IsPoint}
-use Rattle.triplet_text.specs.Lines.{lines_of, AreRead}
+use Rattle.triplet_text.specs.Lines.{lines_of}
 use Rattle.group_closure.specs.Words.{Span, Closes, IsUnclosed}
 use Rattle.group_closure.specs.GroupList.{IsGroupList, IsGroup}
 use Rattle.group_closure.proofs.Lists.{one_list, group_of_closing}

@@ -1,5 +1,5 @@
 -- From what answering did, by its outcome, to what is said by the status.
-use Rattle.std.proofs.Common.{◌≡◌, ◌≢◌, ◌⊎◌, ◌≤◌, ◌<◌, ◌+◌, ◌↔◌, ℕ, List, [], ◌++◌, Option, Some, None, IfSome, Result, Ok, Err, refl, sym, ap, subst, ◌∙◌, inl, inr, ⊎_elim, length, length-append, arith}
+use Rattle.std.proofs.Common.{◌≡◌, ◌≢◌, ◌⊎◌, ◌≤◌, ◌<◌, ◌+◌, ◌↔◌, ℕ, List, ◌++◌, Option, Some, None, IfSome, Result, Ok, Err, refl, sym, ap, subst, ◌∙◌, inl, inr, ⊎_elim, length, length-append, arith}
 use Rattle.std.specs.Prelude.{IsErrOf}
 use Rattle.std.proofs.lemmas.List.{append-nil}
 use Rattle.std.specs.Io.KnownBytes.{Appends, Consumes, IsAtEnd}
@@ -23,7 +23,7 @@ use Rattle.sg_cli.specs.Stages.{Gives, Refuses, Stage, ◌>>=◌, behind, refuse
 use Rattle.sg_cli.specs.Answer.{Answer, command, no_command, short, long, Measuring, Over, OverLines, OverInput, AnswerOver, IsAnswer}
 use Rattle.sg_cli.specs.Run.{before_writing, HasStatus, IsDecided, IsReadToEnd, IfKnown, IfTold, IfRefused, IfTabled, Completes}
 use Rattle.sg_cli.specs.Steps.{Answers, Serves}
-use Rattle.sg_cli.proofs.Stages.{IsLate, IsSound}
+use Rattle.sg_cli.proofs.Stages.{IsSound}
 use Rattle.sg_cli.proofs.Commands.{one_asked}
 use Rattle.sg_cli.proofs.SampleTexts.{made_is_group}
 use Rattle.sg_cli.proofs.Soundness.{sound_lines, sound_over}

@@ -1,5 +1,5 @@
 -- Each stage of the answer is sound: so words and bytes have one answer.
-use Rattle.std.proofs.Common.{◌≡◌, ◌⊎◌, ◌∙◌, ℕ, List, length, ⊎_elim, refl, sym, ap, arith, All}
+use Rattle.std.proofs.Common.{◌≡◌, ◌∙◌, ℕ, List, length, ⊎_elim, refl, sym, ap, arith, All}
 use Rattle.std.proofs.lemmas.Bool.{cases_lt}
 use Rattle.lattice_algebra.specs.Operator.{Operator, IsOperator}
 use Rattle.exact_ops.specs.declared.TheConstants.{UNIT}
@@ -14,10 +14,10 @@ use Rattle.sg_cli.specs.declared.TheConstants.{MAX_INPUT}
 use Rattle.sg_cli.specs.declared.fault.Fault.{Fault}
 use Rattle.sg_cli.specs.declared.fault.Fault.TheVariants.{Words, TooLong, Unreadable, NotUnimodular, Unclosed}
 use Rattle.sg_cli.specs.declared.words.Input.{Input}
-use Rattle.sg_cli.specs.declared.words.Input.TheVariants.{Made, Operators, OperatorsAndData}
-use Rattle.sg_cli.specs.Words.{HasArguments, family, Asked}
+use Rattle.sg_cli.specs.declared.words.Input.TheVariants.{Made, OperatorsAndData}
+use Rattle.sg_cli.specs.Words.{Asked}
 use Rattle.sg_cli.specs.Inputs.{DataLines, Parts, AreParts, no_data, input_for}
-use Rattle.sg_cli.specs.Stages.{Gives, Refuses, Giving, HasOneAtMost, HasSome}
+use Rattle.sg_cli.specs.Stages.{Gives, Refuses, HasOneAtMost, HasSome}
 use Rattle.sg_cli.specs.Answer.{Reading, command, no_command, Measuring, short, long, Listing, listed, unreadable, not_unimodular, Closing, closed, unclosed, Over, OverLines, OverInput, AnswerOver, IsAnswer}
 use Rattle.sg_cli.proofs.Stages.{one_behind, some_behind, IsLate, IsSound, sound_behind, sound_giving}
 use Rattle.sg_cli.proofs.Commands.{one_asked, asked_or_none}

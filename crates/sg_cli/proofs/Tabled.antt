@@ -1,5 +1,5 @@
 -- Where the words ask for rows, the text of the answer shows those of a Wyckoff table of the group that is asked about.
-use Rattle.std.proofs.Common.{◌≡◌, ℕ, List, subst}
+use Rattle.std.proofs.Common.{ℕ, List, subst}
 use Rattle.lattice_algebra.specs.Operator.{Operator}
 use Rattle.exact_ops.specs.declared.TheConstants.{UNIT}
 use Rattle.triplet_text.specs.Lines.{lines_of}

@@ -14,7 +14,12 @@ use table_print::print_ops;
 
 /// Prints the operators of the group in another basis, where no entry becomes too large. All memory is taken before the
 /// first byte is written.
-pub fn answer_basis<K: Sink>(alloc: Global, group: &Group, c: &Change, out: &mut K) -> Result<(), Fault>
+pub fn answer_basis<K: Sink>(
+    alloc: Global,
+    group: &Group,
+    c: &Change,
+    out: &mut K,
+) -> Result<(), Fault>
     ensures answers { Answers K.seen (OverBasis group.now c.now) out.old out.new result }
     ensures counted { Counted K.seen out.old out.new result }
 {

@@ -3,7 +3,7 @@ use Rattle.std.proofs.lemmas.List.{take_rest}
 use Rattle.sg_cli.proofs.answers.cut_input.Goals as goal
 
 pub returns-in-OperatorsAndData-clause-parts : goal.returns-in-OperatorsAndData-clause-parts
-returns-in-OperatorsAndData-clause-parts c = rw (c.in-OperatorsAndData.is, take_rest c.split-at.result.tail c.args.bytes.now) (at_divider c.args.bytes.now c.split-at.result c.split-at.ensures.parts)
+returns-in-OperatorsAndData-clause-parts c = rw (c.in-OperatorsAndData.is, take_rest c.args.bytes.now c.split-at.result.tail) (at_divider c.args.bytes.now c.split-at.result c.split-at.ensures.parts)
 
 pub returns-in_default-clause-parts : goal.returns-in_default-clause-parts
 returns-in_default-clause-parts c = all_of_it c.args.input c.args.bytes.now c.in_default.not-OperatorsAndData

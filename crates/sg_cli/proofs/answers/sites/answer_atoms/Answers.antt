@@ -1,7 +1,7 @@
 use Rattle.std.proofs.Common.{Ok, Err, ap, ◌∙◌}
 use Rattle.std.proofs.lemmas.Result.{err_from_is_err_and}
 use Rattle.sg_cli.specs.Fault.{fault_of_write}
-use Rattle.sg_cli.proofs.Outcomes.{not_sites, over_sites, stop_counted, text_stopped}
+use Rattle.sg_cli.proofs.Outcomes.{not_sites, over_sites, text_stopped}
 use Rattle.sg_cli.proofs.answers.sites.answer_atoms.Goals as goal
 
 pub returns-in_err-atoms-clause-answers : goal.returns-in_err-atoms-clause-answers
