@@ -4,11 +4,12 @@ use Rattle.phase_rules.specs.declared.pairs.Pairs.{Pairs}
 use Rattle.phase_rules.specs.declared.pairs.Pairs.TheVariants.{Friedel, Apart}
 use Rattle.sg_cli.specs.declared.words.Name.{Name}
 use Rattle.std.specs.Prelude.{codes}
-use Rattle.sg_cli.specs.Words.{Family, Bare, OfPoint, OfIndex, OfBox, OfGrid, OfBasis, OfCell, OfSeed, IsSeedText, AreThree, ArePointTexts, AreIndexTexts, AreBoxTexts, AreGridTexts, IsBasisText, AreCellTexts, MayEndWith, are_apart, Given, HasArguments, written, family, Asked, IsAsked, IsNoCommand}
+use Rattle.sg_cli.specs.Words.{Family, Bare, OfPoint, OfIndex, OfBox, OfGrid, OfBasis, OfCell, OfSeed, IsSeedText, AreThree, AreIndexTexts, AreBoxTexts, AreGridTexts, IsBasisText, AreCellTexts, MayEndWith, are_apart, Given, HasArguments, written, family, Asked, IsAsked, IsNoCommand}
 use Rattle.sg_cli.proofs.Names.{one_name, name_or_none}
 use Rattle.sg_cli.proofs.ThreeWords.{three_long, one_of_three, three_or_none}
 use Rattle.sg_cli.proofs.FurtherWord.{one_may_end, may_end_or_not}
-use Rattle.sg_cli.proofs.PointWords.{point_of_texts, point_or_none}
+use Rattle.triplet_text.specs.Points.{ArePointTexts}
+use Rattle.triplet_text.proofs.PointTexts.{point_of_texts, point_or_none}
 use Rattle.sg_cli.proofs.FewWords.{one_of_one, one_or_none, one_of_two, two_or_none}
 use Rattle.sg_cli.proofs.ChangeWords.{one_basis, basis_or_none, one_cell, cell_or_none}
 use Rattle.sg_cli.proofs.NumberWords.{one_index, index_or_none, one_box, box_or_none, one_grid, grid_or_none, one_seed, seed_or_none}

@@ -13,13 +13,16 @@ use Rattle.triplet_text.specs.Lines.{skipped, blank, end as no_lines}
 use Rattle.sg_io.specs.Streams.{SeenSink}
 use Rattle.page_print.specs.Lines.{end as no_text, line}
 use Rattle.sg_cli.specs.declared.fault.Fault.TheVariants.{Words}
-use Rattle.sg_cli.specs.declared.words.Name.TheVariants.{Ops, Sample}
+use Rattle.sg_cli.specs.declared.words.Name.TheVariants.{Ops}
+use Rattle.sg_cli.specs.declared.words.Input.TheVariants.{Made, Operators}
 use Rattle.sg_cli.specs.Stages.{Outcome, Gives, Refuses, Stage, ◌>>=◌, behind, HasOneAtMost, HasSome}
-use Rattle.sg_cli.specs.Words.{IsAsked, ReadsNothing}
+use Rattle.sg_cli.specs.Words.{IsAsked}
+use Rattle.sg_cli.specs.Inputs.{ReadsNothing}
 use Rattle.sg_cli.specs.Answer.{Answer, IsAnswer, status_of_answer, command, short, listed, closed}
 use Rattle.sg_cli.specs.Laws.{GenerateOneGroup, AreMembersOf, HaveOneText}
 use Rattle.sg_cli.specs.Run.{IsDecided, IsRefusal, IsReadToEnd, before_writing, IfTold, HasStatus, IfRefused, IfPrinted, IsGiven, Completes, IsGroupOf, IsGroupAsked, IsTold}
-use Rattle.sg_cli.proofs.Answers.{one_answer}
+use Rattle.sg_cli.proofs.Soundness.{one_answer}
+use Rattle.sg_cli.proofs.Serving.{reads_something}
 
 -- ---- stages
 
@@ -126,16 +129,16 @@ generated = record {
   sorted = tt;
 }
 
-group_of : IsGroupOf [] one
-group_of = record { list = []; read = skipped (blank tt) no_lines; closes = closes; group = generated }
+group_of : IsGroupOf Operators [] one
+group_of = record { parts = _; divided = refl; list = []; read = skipped (blank tt) no_lines; closes = closes; group = generated }
 
-no_group_of : IsGroupOf [] [] → ⊥
+no_group_of : IsGroupOf Operators [] [] → ⊥
 no_group_of g = let l = slice_get_within [] 0 identity_operator g.group.first in omega (arith, l)
 
-group_asked : IsGroupAsked Ops tt [] one
+group_asked : IsGroupAsked Operators [] one
 group_asked = group_of
 
-no_group_asked : IsGroupAsked Sample 0 [] [] → ⊥
+no_group_asked : IsGroupAsked (Made 0) [] [] → ⊥
 no_group_asked g = let l = slice_get_within [] 0 identity_operator g.group.first in omega (arith, l)
 
 -- ---- the answer to `ops`: one line
@@ -150,7 +153,7 @@ asked : IsAsked words (record { name = Ops; given = tt })
 asked = record { arguments = []; words_are = refl; given = refl }
 
 answer : IsAnswer words [] (Gives its_text)
-answer = behind (command asked) (behind (short (omega arith)) (behind (listed (skipped (blank tt) no_lines)) (behind (closed closes generated) (line refl no_text))))
+answer = behind (command asked) (behind (short (omega arith)) (behind refl (behind (listed (skipped (blank tt) no_lines)) (behind (closed closes generated) (line refl no_text)))))
 
 status_of : Answer → ℕ
 status_of (Gives text) = 0
@@ -166,15 +169,9 @@ has_status = (Gives its_text, answer, refl)
 other_status : HasStatus words [] 5 → ⊥
 other_status h = let e : Same 0 5 = ap status_of_answer (one_answer words [] (Gives its_text) h.0 answer h.1) ∙ h.2 in omega (arith, e)
 
--- it reads its input: `ops` is not `sample`
-first_byte : List (List ℕ) → ℕ
-first_byte [] = 0
-first_byte ([] ∷ rest) = 0
-first_byte ((byte ∷ bytes) ∷ rest) = byte
-
+-- it reads its input
 reads : ReadsNothing words → ⊥
-unfolding first_byte
-reads r = let e : Same 111 115 = ap first_byte r.1.words_are in omega (arith, e)
+reads = reads_something words (record { name = Ops; given = tt }) asked (λ made. made)
 
 told : IfTold words (Some []) (Gives its_text)
 told = (answer, (λ r bytes. absurd (reads r)))

@@ -9,10 +9,14 @@ pub mod Names
 pub mod Commands
 pub mod WordsLists
 pub mod Stages
+pub mod DataStages
 mod WyckoffTexts
 mod SampleTexts
-pub mod Answers
+mod SiteStages
+mod Answering
+pub mod Soundness
 mod Tabled
 mod SameGroup
 pub mod Outcomes
+mod Serving
 mod Examples

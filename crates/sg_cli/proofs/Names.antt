@@ -4,7 +4,7 @@ use Rattle.std.proofs.Common.{◌≡◌, ◌⊎◌, ℕ, Bool, true, false, List
 use Rattle.std.specs.Str.{bytes_eq}
 use Rattle.std.proofs.lemmas.Slice.Eq.{bytes_eq-Decides}
 use Rattle.sg_cli.specs.declared.words.Name.{Name}
-use Rattle.sg_cli.specs.declared.words.Name.TheVariants.{Ops, Types, Site, Index, Refl, Grid, Basis, Recell, Wyckoff, Fit, Table, Sample}
+use Rattle.sg_cli.specs.declared.words.Name.TheVariants as named
 use Rattle.sg_cli.specs.Words.{written}
 
 -- the first of the names that is written so
@@ -13,22 +13,13 @@ first_written [] word = None
 first_written (name ∷ names) word = if bytes_eq (written name) word then Some name else first_written names word
 
 all_names : List Name
-all_names = Ops ∷ Types ∷ Site ∷ Index ∷ Refl ∷ Grid ∷ Basis ∷ Recell ∷ Wyckoff ∷ Fit ∷ Table ∷ Sample ∷ []
+all_names =
+    named.Ops ∷ named.Types ∷ named.Site ∷ named.Index ∷ named.Refl ∷ named.Grid ∷ named.Basis ∷ named.Recell ∷ named.Wyckoff ∷ named.Fit ∷ named.Table ∷ named.Sample ∷ named.Atoms ∷ []
 
 found : (name : Name) → first_written all_names (written name) ≡ Some name
 unfolding first_written all_names
-found Ops = refl
-found Types = refl
-found Site = refl
-found Index = refl
-found Refl = refl
-found Grid = refl
-found Basis = refl
-found Recell = refl
-found Wyckoff = refl
-found Fit = refl
-found Table = refl
-found Sample = refl
+found named.Ops = refl
+found other = refl
 
 pub one_name : (a b : Name) → written a ≡ written b → a ≡ b
 one_name a b e = let same : Some a ≡ Some b = sym (found a) ∙ ap (first_written all_names) e ∙ found b in cc

@@ -3,7 +3,7 @@ use Rattle.std.proofs.Common.{◌≡◌, ◌≤◌, ℕ, List, length, inl, inr,
 use Rattle.std.proofs.lemmas.List.Elements.{All-weaker}
 use Rattle.lattice_algebra.specs.Operator.{Operator}
 use Rattle.lattice_algebra.specs.Point.{Point, IsPoint}
-use Rattle.triplet_text.specs.Lines.{lines_of, AreRead}
+use Rattle.triplet_text.specs.Lines.{lines_of}
 use Rattle.group_closure.specs.Words.{Span, Closes, IsUnclosed}
 use Rattle.group_closure.specs.GroupList.{IsGroupList, IsGroup}
 use Rattle.group_closure.proofs.Lists.{one_list, group_of_closing}
@@ -13,14 +13,15 @@ use Rattle.table_print.specs.Rows.{IsRowsText}
 use Rattle.table_print.specs.Table.{IsTableText}
 use Rattle.table_print.proofs.TablePages.{one_table_text}
 use Rattle.sg_cli.specs.declared.TheConstants.{MAX_INPUT}
-use Rattle.sg_cli.specs.declared.words.Name.{Name}
-use Rattle.sg_cli.specs.declared.words.Name.TheVariants.{Sample}
-use Rattle.sg_cli.specs.Words.{Asked, Given, family}
-use Rattle.sg_cli.specs.Stages.{Outcome, Gives, Refuses, ◌>>=◌, behind, refused}
-use Rattle.sg_cli.specs.Answer.{Answer, Measuring, short, long, Listing, listed, Closing, closed, unclosed, AnswerOver, AnswerOf, IsAnswerTo, IsAnswer}
-use Rattle.sg_cli.specs.Laws.{GenerateOneGroup, HaveOneText}
+use Rattle.sg_cli.specs.declared.words.Input.{Input}
+use Rattle.sg_cli.specs.declared.words.Input.TheVariants.{Made}
+use Rattle.sg_cli.specs.Words.{Asked, IsAsked}
+use Rattle.sg_cli.specs.Inputs.{DataLines, Parts, input_for}
+use Rattle.sg_cli.specs.Stages.{Outcome, Gives, Refuses, Stage, ◌>>=◌, behind, refused}
+use Rattle.sg_cli.specs.Answer.{Answer, command, short, long, Listing, listed, Closing, closed, unclosed, Over, OverLines, OverInput, AnswerOver, IsAnswer}
+use Rattle.sg_cli.specs.Laws.{GenerateOneGroup, HaveOneGroup, HaveOneText}
 use Rattle.sg_cli.specs.Wyckoff.{IsTextOfRows, IsFitText}
-use Rattle.sg_cli.proofs.Answers.{one_listing, one_answer}
+use Rattle.sg_cli.proofs.Soundness.{one_listing, one_parts, one_answer}
 use Rattle.sg_cli.proofs.WyckoffTexts.{one_text_of_rows, one_fit_text}
 
 -- ---- what one group closes to
@@ -42,42 +43,39 @@ module _ (list other : List Operator) (same : GenerateOneGroup list other) where
 
 -- ---- one answer
 
-module _ (bytes others : List ℕ) (list other : List Operator) (read : AreRead (lines_of bytes) list) (read_too : AreRead (lines_of others) other) (same : GenerateOneGroup list other) where
+module _ (input : Input) (bytes others : List ℕ) (h : HaveOneGroup input bytes others) (Then : Over) where
+  over_closing : (rest : DataLines) (answer : Answer) → (Closing h.list >>= λ members. Then members rest) answer → (Closing h.other >>= λ members. Then members rest) answer
+  over_closing rest answer (behind {value = members} c a) = behind (closing_too h.list h.other h.same (Gives members) c) a
+  over_closing rest answer (refused {fault = fault} c) = refused (closing_too h.list h.other h.same (Refuses fault) c)
+
+  abbrev Behind : Parts → Stage (List ℕ)
+  Behind parts = Listing parts.head >>= λ list. (Closing list >>= λ members. Then members parts.tail)
+
   -- what is listed is the list
-  answer_behind_list : (asked : Asked) (value : List Operator) (answer : Answer) → Listing (lines_of bytes) (Gives value) → (Closing value >>= λ members. AnswerOver members asked) answer → IsAnswerTo asked others answer
-  answer_behind_list asked value answer l h =
-      let e : Gives value ≡ Gives list = one_listing (lines_of bytes) (Gives value) (Gives list) l (listed read) in
-      let is : value ≡ list = cc in
-      behind (listed read_too) (by answer (subst (λ v. (Closing v >>= λ members. AnswerOver members asked) answer) is h))
-    where
-      by : (answer : Answer) → (Closing list >>= λ members. AnswerOver members asked) answer → (Closing other >>= λ members. AnswerOver members asked) answer
-      by answer (behind {value = members} c a) = behind (closing_too list other same (Gives members) c) a
-      by answer (refused {fault = fault} c) = refused (closing_too list other same (Refuses fault) c)
+  over_listing : (answer : Answer) → Behind h.parts answer → Behind h.other_parts answer
+  over_listing answer (behind {value = value} l k) =
+      let e : Gives value ≡ Gives h.list = one_listing h.parts.head (Gives value) (Gives h.list) l (listed h.read) in
+      let is : value ≡ h.list = cc in
+      behind (listed h.read_too) (subst (λ rest. (Closing h.other >>= λ members. Then members rest) answer) h.same_data (over_closing h.parts.tail answer (subst (λ v. (Closing v >>= λ members. Then members h.parts.tail) answer) is k)))
+  over_listing answer (refused {fault = fault} l) = let e : Refuses fault ≡ Gives h.list = one_listing h.parts.head (Refuses fault) (Gives h.list) l (listed h.read) in absurd cc
 
-  answer_to_too : (asked : Asked) (answer : Answer) → IsAnswerTo asked bytes answer → IsAnswerTo asked others answer
-  answer_to_too asked answer (behind {value = value} l h) = answer_behind_list asked value answer l h
-  answer_to_too asked answer (refused {fault = fault} l) = let e : Refuses fault ≡ Gives list = one_listing (lines_of bytes) (Refuses fault) (Gives list) l (listed read) in absurd cc
+  lines_too : (answer : Answer) → OverLines input (lines_of bytes) Then answer → OverLines input (lines_of others) Then answer
+  lines_too answer (behind {value = parts} p k) = behind h.divided_too (over_listing answer (subst (λ q. Behind q answer) (one_parts input (lines_of bytes) parts h.parts p h.divided) k))
+  lines_too answer (refused r) = absurd r
 
-  module _ (few : length bytes ≤ MAX_INPUT) (few_too : length others ≤ MAX_INPUT) where
-    not_long : (outcome : Outcome (Unit {0})) → Measuring bytes outcome → Measuring others outcome
-    not_long outcome (short s) = short few_too
-    not_long outcome (long l) = absurd (omega (arith, l, few))
+module _ (bytes others : List ℕ) (few : length bytes ≤ MAX_INPUT) (few_too : length others ≤ MAX_INPUT) (Then : Over) where
+  -- what is asked of a made group is asked of no input
+  input_too : (input : Input) → HaveOneGroup input bytes others → (answer : Answer) → OverInput input bytes Then answer → OverInput input others Then answer
+  input_too (Made seed) h answer a = a
+  input_too input h answer (behind (short s) k) = behind (short few_too) (lines_too input bytes others h Then answer k)
+  input_too input h answer (refused (long l)) = absurd (omega (arith, l, few))
 
-    measured_too : (asked : Asked) (answer : Answer) → (Measuring bytes >>= λ _. IsAnswerTo asked bytes) answer → (Measuring others >>= λ _. IsAnswerTo asked others) answer
-    measured_too asked answer (behind {value = value} m h) = behind (not_long (Gives value) m) (answer_to_too asked answer h)
-    measured_too asked answer (refused {fault = fault} m) = refused (not_long (Refuses fault) m)
-
-    -- what is asked of a made group is asked of no input
-    answer_of_too : (name : Name) (given : Given (family name)) (answer : Answer) → AnswerOf name given bytes answer → AnswerOf name given others answer
-    answer_of_too Sample seed answer h = h
-    answer_of_too other given answer h = measured_too (record { name = other; given = given }) answer h
-
-    answer_too : (words : List (List ℕ)) (answer : Answer) → IsAnswer words bytes answer → IsAnswer words others answer
-    answer_too words answer (behind {value = asked} a h) = behind a (answer_of_too asked.name asked.given answer h)
-    answer_too words answer (refused a) = refused a
-
-    pub answer_of_one_group : (words : List (List ℕ)) (a b : Answer) → IsAnswer words bytes a → IsAnswer words others b → a ≡ b
-    answer_of_one_group words a b p q = one_answer words others a b (answer_too words a p) q
+pub answer_of_one_group : (words : List (List ℕ)) (bytes others : List ℕ) → length bytes ≤ MAX_INPUT → length others ≤ MAX_INPUT → ((asked : Asked) → IsAsked words asked → HaveOneGroup (input_for asked) bytes others) → (a b : Answer) → IsAnswer words bytes a → IsAnswer words others b → a ≡ b
+answer_of_one_group words bytes others few few_too same a b p q = one_answer words others a b (too a p) q
+  where
+    too : (answer : Answer) → IsAnswer words bytes answer → IsAnswer words others answer
+    too answer (behind {value = asked} (command is) h) = behind (command is) (input_too bytes others few few_too (AnswerOver asked) (input_for asked) (same asked is) answer h)
+    too answer (refused r) = refused r
 
 -- ---- one text
 

@@ -14,13 +14,11 @@ use Rattle.group_closure.proofs.Lists.{one_list, not_closing, group_of_closing}
 use Rattle.group_closure.proofs.Existence.{closes_or_not}
 use Rattle.space_groups.specs.Rows.{Row, IsAt, Fits, IsTable}
 use Rattle.samples.specs.declared.counting.TheConstants.{POINTS}
-use Rattle.samples.specs.Groups.{number_of, triplets_of}
+use Rattle.samples.specs.Groups.{number_of, triplets_of, IsSampleGroup}
 use Rattle.samples.specs.Points.{made_point}
 use Rattle.samples.specs.Counts.{IsCount, none, one_more, no_more, AreCounts}
 use Rattle.samples.proofs.Triplets.{ReadsAndCloses, each}
 use Rattle.table_print.specs.Sample.{IsSampleText}
-use Rattle.sg_cli.specs.Stages.{Gives, HasOneAtMost, HasSome}
-use Rattle.sg_cli.specs.Answer.{Making, made}
 use Rattle.sg_cli.specs.Wyckoff.{IsCountedText}
 
 -- ---- the group
@@ -31,22 +29,22 @@ lines_for number = lines_of (triplets_of number)
 list_for : (seed : ℕ) → ReadsAndCloses (number_of seed)
 list_for seed = each (number_of seed) (omega arith) (omega arith)
 
-pub made_is_group : (seed : ℕ) (members : List Operator) → Making (number_of seed) (Gives members) → IsGroup members
-made_is_group seed members (made h) =
+pub made_is_group : (seed : ℕ) (members : List Operator) → IsSampleGroup (number_of seed) members → IsGroup members
+made_is_group seed members h =
     let lines = lines_for (number_of seed) in
     let r = list_for seed in
     group_of_closing h.list members (read_are_operators lines h.list h.read) (subst Closes (same_list lines r.0 h.list r.1 h.read) r.2) h.group
 
-pub one_making : (number : ℕ) → HasOneAtMost (Making number)
-one_making number a b (made {members = x} p) (made {members = y} q) =
-    let same = same_list (lines_for number) p.list q.list p.read q.read in
-    ap Gives (one_list q.list x y (subst (λ list. IsGroupList list x) same p.group) q.group)
+pub one_made : (seed : ℕ) (a b : List Operator) → IsSampleGroup (number_of seed) a → IsSampleGroup (number_of seed) b → a ≡ b
+one_made seed a b p q =
+    let same = same_list (lines_for (number_of seed)) p.list q.list p.read q.read in
+    one_list q.list a b (subst (λ list. IsGroupList list a) same p.group) q.group
 
-pub some_making : (seed : ℕ) → HasSome (Making (number_of seed))
-some_making seed =
+pub some_made : (seed : ℕ) → (members : List Operator) × IsSampleGroup (number_of seed) members
+some_made seed =
     let r = list_for seed in
     ⊎_elim
-    (λ c. (Gives c.0, made (record { list = r.0; read = r.1; group = c.2 })))
+    (λ c. (c.0, record { list = r.0; read = r.1; group = c.2 }))
     (λ u. absurd (not_closing r.0 u r.2))
     (closes_or_not r.0 (read_are_operators (lines_for (number_of seed)) r.0 r.1))
 

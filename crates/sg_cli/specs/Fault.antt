@@ -17,8 +17,10 @@ use Rattle.group_closure.specs.declared.group.CloseFault.{CloseFault}
 use Rattle.group_closure.specs.declared.group.CloseFault.TheVariants as closes
 use Rattle.grid_tags.specs.declared.grid_orbits.GridFault.{GridFault}
 use Rattle.grid_tags.specs.declared.grid_orbits.GridFault.TheVariants as grids
+use Rattle.atom_expand.specs.declared.atoms.AtomFault.{AtomFault}
+use Rattle.atom_expand.specs.declared.atoms.AtomFault.TheVariants as atoms
 use Rattle.sg_cli.specs.declared.fault.Fault.{Fault}
-use Rattle.sg_cli.specs.declared.fault.Fault.TheVariants.{Words, Reading, TooLong, Unreadable, NotUnimodular, Unclosed, NotKept, NotCell, NotWhole, TooWide, TooFine, TooMany, Writing, NoMemory}
+use Rattle.sg_cli.specs.declared.fault.Fault.TheVariants.{Words, Reading, TooLong, Unreadable, NotUnimodular, Unclosed, BadData, TooManySites, NotKept, NotCell, NotWhole, TooWide, TooFine, TooMany, Writing, NoMemory}
 
 -- the status that the program ends with
 abbrev pub status_of : Fault → ℕ
@@ -28,6 +30,8 @@ status_of TooLong = 10
 status_of (Unreadable line) = 5
 status_of (NotUnimodular line) = 6
 status_of Unclosed = 7
+status_of (BadData line) = 11
+status_of TooManySites = 12
 status_of NotKept = 8
 status_of NotCell = 8
 status_of NotWhole = 8
@@ -37,14 +41,20 @@ status_of TooMany = 8
 status_of Writing = 4
 status_of NoMemory = 9
 
+-- the line that is told of a line of the input
+abbrev pub at_line : ℕ → List ℕ → List ℕ
+at_line line what = codes "sg: line " ++ decimal line ++ what
+
 -- the line that is told
 abbrev pub text_of : Fault → List ℕ
 text_of Words = codes "sg: words are not a command in range\n"
 text_of Reading = codes "sg: reading failed\n"
 text_of TooLong = codes "sg: input too long\n"
-text_of (Unreadable line) = codes "sg: line " ++ decimal line ++ codes ": not a triplet\n"
-text_of (NotUnimodular line) = codes "sg: line " ++ decimal line ++ codes ": not unimodular\n"
+text_of (Unreadable line) = at_line line (codes ": not a triplet\n")
+text_of (NotUnimodular line) = at_line line (codes ": not unimodular\n")
 text_of Unclosed = codes "sg: operators do not close\n"
+text_of (BadData line) = at_line line (codes ": not a data line\n")
+text_of TooManySites = codes "sg: too many data lines\n"
 text_of NotKept = codes "sg: grid is not kept\n"
 text_of NotCell = codes "sg: changed cell is no lattice cell\n"
 text_of NotWhole = codes "sg: changed entry is not whole\n"
@@ -89,6 +99,12 @@ fault_of_recell cells.Wide = TooWide
 fault_of_recell cells.Fine = TooFine
 fault_of_recell cells.Many = TooMany
 fault_of_recell cells.NoMemory = NoMemory
+
+-- what sites that could not be read are as a fault
+abbrev pub fault_of_atoms : AtomFault → Fault
+fault_of_atoms (atoms.Bad line) = BadData line
+fault_of_atoms atoms.Many = TooManySites
+fault_of_atoms atoms.NoMemory = NoMemory
 
 -- what a write to the output that stopped is as a fault
 abbrev pub fault_of_write : SinkStop → Fault

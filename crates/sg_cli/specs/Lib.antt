@@ -1,5 +1,7 @@
 pub mod Answer
+pub mod Answering
 pub mod Fault
+pub mod Inputs
 pub mod Laws
 pub mod Run
 pub mod Stages

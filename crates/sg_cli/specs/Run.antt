@@ -10,14 +10,13 @@ use Rattle.group_closure.specs.Words.{Closes}
 use Rattle.group_closure.specs.GroupList.{IsGroupList}
 use Rattle.space_groups.specs.Rows.{Row, IsTable}
 use Rattle.page_print.specs.Lines.{SomeText}
-use Rattle.table_print.specs.Rows.{IsRowsText}
-use Rattle.table_print.specs.Table.{IsTableText}
 use Rattle.sg_cli.specs.declared.fault.Fault.{Fault}
-use Rattle.sg_cli.specs.declared.words.Name.{Name}
-use Rattle.sg_cli.specs.declared.words.Name.TheVariants.{Wyckoff, Fit, Table, Sample}
 use Rattle.sg_cli.specs.Stages.{Gives, Refuses, Stage}
-use Rattle.sg_cli.specs.Words.{Asked, IsAsked, Given, family, ReadsNothing}
-use Rattle.sg_cli.specs.Wyckoff.{IsFitText, IsCountedText}
+use Rattle.sg_cli.specs.declared.words.Input.{Input}
+use Rattle.sg_cli.specs.declared.words.Input.TheVariants.{Made}
+use Rattle.sg_cli.specs.Words.{Asked, IsAsked}
+use Rattle.sg_cli.specs.Inputs.{input_for, ReadsNothing, Parts, AreParts}
+use Rattle.sg_cli.specs.Answering.{ShowsRows}
 use Rattle.samples.specs.Groups.{number_of, IsSampleGroup}
 use Rattle.sg_cli.specs.Answer.{Answer, IsAnswer, status_of_answer}
 use Rattle.sg_io.specs.Streams.{SeenSink}
@@ -67,31 +66,24 @@ IsGiven old new status (Refuses fault) = status ≡ status_of_answer (Refuses fa
 abbrev pub Completes : List (List ℕ) → Option (List ℕ) → Option (List ℕ) → Option (List ℕ) → ℕ → Type 0
 Completes words left old new status = IfKnown words left (λ bytes. ((answer : Answer) × IsAnswer words bytes answer × IsGiven old new status answer) ⊎ (status ≡ 9))
 
--- the members are the group of the input: its lines are operators, which close to it
-pub record IsGroupOf (bytes : List ℕ) (members : List Operator) : Type 0 where
+-- the members are the group of the input: its lines of operators are read, and close to it
+pub record IsGroupOf (input : Input) (bytes : List ℕ) (members : List Operator) : Type 0 where
+  pub parts : Parts
+  pub divided : AreParts input (lines_of bytes) parts
   pub list : List Operator
-  pub read : AreRead (lines_of bytes) list
+  pub read : AreRead parts.head list
   pub closes : Closes list
   pub group : IsGroupList list members
 
--- the members are the group that is asked about: of `sample` the made one, of the other commands that of the input
-abbrev pub IsGroupAsked : (name : Name) → Given (family name) → List ℕ → List Operator → Type 0
-IsGroupAsked Sample seed bytes members = IsSampleGroup (number_of seed) members
-IsGroupAsked other given bytes members = IsGroupOf bytes members
-
--- what the text shows of rows: `wyckoff` the line of each, `table` and `sample` these lines under a heading, `fit` the line of
--- that which the point fits; the other commands show none
-abbrev pub ShowsRows : (name : Name) → Given (family name) → List Operator → List Row → List ℕ → Type 0
-ShowsRows Wyckoff given members rows text = IsRowsText members rows text
-ShowsRows Table g members rows text = IsTableText g.1 members rows g.0 text
-ShowsRows Fit x members rows text = IsFitText members x rows text
-ShowsRows Sample seed members rows text = IsCountedText members seed rows text
-ShowsRows other given members rows text = Unit {0}
+-- the members are the group that is asked about: the made one, or that of the input
+abbrev pub IsGroupAsked : Input → List ℕ → List Operator → Type 0
+IsGroupAsked (Made seed) bytes members = IsSampleGroup (number_of seed) members
+IsGroupAsked input bytes members = IsGroupOf input bytes members
 
 -- where the words ask for rows, the text shows those of a Wyckoff table of the group that is asked about
 pub record IsTabled (bytes : List ℕ) (asked : Asked) (text : List ℕ) : Type 0 where
   pub members : List Operator
-  pub is_group : IsGroupAsked asked.name asked.given bytes members
+  pub is_group : IsGroupAsked (input_for asked) bytes members
   pub rows : List Row
   pub table : IsTable UNIT members rows
   pub shown : ShowsRows asked.name asked.given members rows text

@@ -12,6 +12,16 @@ pub data Outcome (A : Type 0) : Type 0 where
 abbrev pub Stage : Type 0 → Type 1
 Stage A = Outcome A → Type 0
 
+-- a stage that gives such a value, and refuses nothing
+abbrev pub Giving : {A : Type 0} → (A → Type 0) → Stage A
+Giving IsSuch (Gives value) = IsSuch value
+Giving IsSuch (Refuses fault) = ⊥
+
+-- the fact holds, or it does not, and that is the refusal
+pub data Needing (Fact : Type 0) (fault : Fault) : Outcome (Unit {0}) → Type 0 where
+  holds : Fact → Needing Fact fault (Gives tt)
+  fails : (¬ Fact) → Needing Fact fault (Refuses fault)
+
 -- one stage, and the next over the value that it gives
 infixl 1 ◌>>=◌
 pub data ◌>>=◌ {A B : Type 0} (first : Stage A) (next : A → Stage B) : Outcome B → Type 0 where

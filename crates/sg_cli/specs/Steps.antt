@@ -1,16 +1,35 @@
 -- What the steps inside a call of the program did, by their outcome.
-use Rattle.std.specs.Prelude.{◌≡◌, ◌≢◌, ◌⊎◌, ◌+◌, List, ℕ, Result, Ok, Err}
+use Rattle.std.specs.Prelude.{◌≡◌, ◌≢◌, ◌⊎◌, ◌+◌, ◌++◌, List, [], ◌∷◌, ℕ, Result, Ok, Err}
 use Rattle.std.specs.Io.KnownBytes.{Appends, IsAtEnd}
 use Rattle.sg_io.specs.Count.{Rose}
 use Rattle.sg_io.specs.Bytes.{AppendsPrefix, ConsumesSome}
 use Rattle.sg_io.specs.Streams.{SeenSource, SeenSink}
+use Rattle.triplet_text.specs.Lines.{lines_of}
 use Rattle.page_print.specs.Lines.{SomeText}
 use Rattle.sg_cli.specs.declared.TheConstants.{MAX_INPUT}
 use Rattle.sg_cli.specs.declared.fault.Fault.{Fault}
 use Rattle.sg_cli.specs.declared.fault.Fault.TheVariants as fault
-use Rattle.sg_cli.specs.Words.{IsNoCommand, ReadsNothing}
+use Rattle.sg_cli.specs.declared.words.Input.{Input}
+use Rattle.sg_cli.specs.Words.{IsNoCommand}
+use Rattle.sg_cli.specs.Inputs.{ReadsNothing, DataLines, Parts, AreParts}
 use Rattle.sg_cli.specs.Stages.{Gives, Refuses, Stage}
 use Rattle.sg_cli.specs.Run.{IfTold}
+
+-- the text has these lines, or these and an empty one behind them
+abbrev pub HasLines : List (List ℕ) → List ℕ → Type 0
+HasLines lines text = (lines_of text ≡ lines) ⊎ (lines_of text ≡ lines ++ [] ∷ [])
+
+-- the text has these data lines, and they are counted from this number on
+pub record IsDataText (rest : DataLines) (text : List ℕ) (line : ℕ) : Type 0 where
+  pub lines : HasLines rest.lines text
+  pub first : line ≡ rest.first
+
+-- the parts of the bytes have the lines of operators and the data lines
+pub record AreCut (input : Input) (bytes head tail : List ℕ) (line : ℕ) : Type 0 where
+  pub parts : Parts
+  pub divided : AreParts input (lines_of bytes) parts
+  pub before : HasLines parts.head head
+  pub behind : IsDataText parts.tail tail line
 
 module _ {K : Type 0} (sink : SeenSink K) where
   open sink use {held, faults, wants}

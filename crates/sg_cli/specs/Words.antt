@@ -1,10 +1,9 @@
 -- The words of the command line, and the commands that they are.
-use Rattle.std.specs.Prelude.{◌≡◌, ◌≤◌, ◌<◌, ◌^◌, ◌++◌, if◌then◌else◌, Bool, true, false, List, [], ◌∷◌, ℕ, ℤ, pos, map, codes}
+use Rattle.std.specs.Prelude.{◌≡◌, ◌≤◌, ◌<◌, ◌^◌, ◌++◌, if◌then◌else◌, Bool, true, false, List, [], ◌∷◌, ℕ, pos, map, codes}
 use Rattle.std.specs.String.{string_bytes}
 use Rattle.std.specs.Global.{Global}
 use Rattle.std.specs.declared.string.String.{String}
 use Rattle.lattice_algebra.specs.Point.{Point}
-use Rattle.exact_ops.specs.Points.{HasCoordinates}
 use Rattle.exact_ops.specs.Numbers.{point_in}
 use Rattle.lattice_algebra.specs.Matrix.{IsUnimodular}
 use Rattle.lattice_algebra.specs.Operator.{Operator, AreWithin, HasEntriesWithin}
@@ -17,14 +16,14 @@ use Rattle.grid_tags.specs.Grids as grids
 use Rattle.grid_tags.specs.Grids.{IsGridInRange}
 use Rattle.space_groups.specs.Bases.{CoordinateChange, IsInvertible}
 use Rattle.basis_change.specs.declared.TheConstants.{MAX_CELL}
-use Rattle.triplet_text.specs.Coordinates.{IsCoordinate}
+use Rattle.triplet_text.specs.Points.{ArePointTexts}
 use Rattle.triplet_text.specs.Grammar.{IsTriplet}
 use Rattle.triplet_text.specs.Integers.{IsNatural, IsInteger}
 use Rattle.sg_cli.specs.declared.TheConstants.{NUMBER_DIGITS, CELL_DIGITS, SEED_DIGITS}
 use Rattle.sg_cli.specs.declared.words.Command.{Command}
 use Rattle.sg_cli.specs.declared.words.Command.TheVariants as command
 use Rattle.sg_cli.specs.declared.words.Name.{Name}
-use Rattle.sg_cli.specs.declared.words.Name.TheVariants.{Ops, Types, Site, Index, Refl, Grid, Basis, Recell, Wyckoff, Fit, Table, Sample}
+use Rattle.sg_cli.specs.declared.words.Name.TheVariants as named
 
 -- each word as its bytes
 abbrev pub texts : List (String Global) → List (List ℕ)
@@ -35,16 +34,6 @@ texts words = map string_bytes words
 -- no further word
 abbrev pub AreNone : List (List ℕ) → Type 0
 AreNone words = words ≡ []
-
--- the texts are three coordinates, and p is the point that has them
-pub record ArePointTexts (x y z : List ℕ) (p : Point) : Type 0 where
-  pub first : ℤ × ℤ
-  pub second : ℤ × ℤ
-  pub third : ℤ × ℤ
-  pub is_first : IsCoordinate x first.0 first.1
-  pub is_second : IsCoordinate y second.0 second.1
-  pub is_third : IsCoordinate z third.0 third.1
-  pub point : HasCoordinates (first ∷ second ∷ third ∷ []) p
 
 -- the texts are three numbers, and a, which is in range, has them
 pub record AreNumbersOf {N A : Type 0} (Is : List ℕ → N → Type 0) (numbers : A → N × N × N) (IsInRange : A → Type 0) (x y z : List ℕ) (a : A) : Type 0 where
@@ -162,33 +151,35 @@ HasArguments OfSeed seed words = IsOne IsSeedText words seed
 
 -- how the name of a command is written
 abbrev pub written : Name → List ℕ
-written Ops = codes "ops"
-written Types = codes "types"
-written Site = codes "site"
-written Index = codes "index"
-written Refl = codes "refl"
-written Grid = codes "grid"
-written Basis = codes "basis"
-written Recell = codes "recell"
-written Wyckoff = codes "wyckoff"
-written Fit = codes "fit"
-written Table = codes "table"
-written Sample = codes "sample"
+written named.Ops = codes "ops"
+written named.Types = codes "types"
+written named.Site = codes "site"
+written named.Index = codes "index"
+written named.Refl = codes "refl"
+written named.Grid = codes "grid"
+written named.Basis = codes "basis"
+written named.Recell = codes "recell"
+written named.Wyckoff = codes "wyckoff"
+written named.Fit = codes "fit"
+written named.Table = codes "table"
+written named.Sample = codes "sample"
+written named.Atoms = codes "atoms"
 
 -- which arguments follow it
 abbrev pub family : Name → Family
-family Ops = Bare
-family Types = Bare
-family Site = OfPoint
-family Index = OfIndex
-family Refl = OfBox
-family Grid = OfGrid
-family Basis = OfBasis
-family Recell = OfCell
-family Wyckoff = Bare
-family Fit = OfPoint
-family Table = OfBox
-family Sample = OfSeed
+family named.Ops = Bare
+family named.Types = Bare
+family named.Site = OfPoint
+family named.Index = OfIndex
+family named.Refl = OfBox
+family named.Grid = OfGrid
+family named.Basis = OfBasis
+family named.Recell = OfCell
+family named.Wyckoff = Bare
+family named.Fit = OfPoint
+family named.Table = OfBox
+family named.Sample = OfSeed
+family named.Atoms = Bare
 
 -- a command as contracts see it: its name, and what its arguments give
 pub record Asked : Type 0 where
@@ -196,18 +187,19 @@ pub record Asked : Type 0 where
   pub given : Given (family name)
 
 abbrev pub seen : Command → Asked
-seen command.Ops = record { name = Ops; given = tt }
-seen command.Types = record { name = Types; given = tt }
-seen (command.Site p) = record { name = Site; given = point_in p }
-seen (command.Index h pairs) = record { name = Index; given = (h, pairs) }
-seen (command.Refl box pairs) = record { name = Refl; given = (box, pairs) }
-seen (command.Grid size) = record { name = Grid; given = size }
-seen (command.Basis c) = record { name = Basis; given = c }
-seen (command.Recell c) = record { name = Recell; given = c }
-seen command.Wyckoff = record { name = Wyckoff; given = tt }
-seen (command.Fit p) = record { name = Fit; given = point_in p }
-seen (command.Table box pairs) = record { name = Table; given = (box, pairs) }
-seen (command.Sample seed) = record { name = Sample; given = seed }
+seen command.Ops = record { name = named.Ops; given = tt }
+seen command.Types = record { name = named.Types; given = tt }
+seen (command.Site p) = record { name = named.Site; given = point_in p }
+seen (command.Index h pairs) = record { name = named.Index; given = (h, pairs) }
+seen (command.Refl box pairs) = record { name = named.Refl; given = (box, pairs) }
+seen (command.Grid size) = record { name = named.Grid; given = size }
+seen (command.Basis c) = record { name = named.Basis; given = c }
+seen (command.Recell c) = record { name = named.Recell; given = c }
+seen command.Wyckoff = record { name = named.Wyckoff; given = tt }
+seen (command.Fit p) = record { name = named.Fit; given = point_in p }
+seen (command.Table box pairs) = record { name = named.Table; given = (box, pairs) }
+seen (command.Sample seed) = record { name = named.Sample; given = seed }
+seen command.Atoms = record { name = named.Atoms; given = tt }
 
 -- the words are this name and arguments that give this
 pub record IsAsked (words : List (List ℕ)) (asked : Asked) : Type 0 where
@@ -226,7 +218,3 @@ IsNoCommand words = (asked : Asked) → IsAsked words asked → ⊥
 -- a command of this name, which has these arguments
 abbrev pub IsSeenAs : Name → List (List ℕ) → Command → Type 0
 IsSeenAs name words command = ((seen command).name ≡ name) × HasArguments (family (seen command).name) (seen command).given words
-
--- the words are a command that reads no input
-abbrev pub ReadsNothing : List (List ℕ) → Type 0
-ReadsNothing words = (seed : ℕ) × IsAsked words (record { name = Sample; given = seed })

@@ -1,6 +1,8 @@
-ghost use Rattle.std.specs.Prelude.{◌≡◌};
-ghost use Rattle.sg_cli.specs.Fault.{fault_of_read, fault_of_lines, fault_of_close, fault_of_grid, fault_of_change, fault_of_recell, fault_of_write, fault_of_want, status_of, text_of};
+ghost use Rattle.std.specs.Prelude.{◌≡◌, ◌+◌, ◌≤◌, ◌++◌, length};
+ghost use Rattle.triplet_text.specs.declared.text.TheConstants.{TEXT_ROOM as ROOM};
+ghost use Rattle.sg_cli.specs.Fault.{fault_of_read, fault_of_lines, fault_of_close, fault_of_grid, fault_of_change, fault_of_recell, fault_of_atoms, fault_of_write, fault_of_want, status_of, text_of, at_line};
 
+use atom_expand::AtomFault;
 use basis_change::basis::ChangeFault;
 use basis_change::cell::RecellFault;
 use exact_ops::{NoMemory, UNIT};
@@ -25,6 +27,10 @@ pub enum Fault {
     NotUnimodular(u32),
     /// The operators generate more than `MAX_OPERATORS`, or one with an entry outside -2..=2.
     Unclosed,
+    /// The first bad data line has this number.
+    BadData(u32),
+    /// There are more sites than `MAX_ATOMS`.
+    TooManySites,
     /// The group does not keep the grid.
     NotKept,
     /// The translation by one changed cell along some axis is no changed element.
@@ -55,12 +61,14 @@ impl Fault {
             Fault::Unreadable(_) => 5,
             Fault::NotUnimodular(_) => 6,
             Fault::Unclosed => 7,
-            Fault::NotKept => 8,
-            Fault::NotCell => 8,
-            Fault::NotWhole => 8,
-            Fault::TooWide => 8,
-            Fault::TooFine => 8,
-            Fault::TooMany => 8,
+            Fault::BadData(_) => 11,
+            Fault::TooManySites => 12,
+            Fault::NotKept
+            | Fault::NotCell
+            | Fault::NotWhole
+            | Fault::TooWide
+            | Fault::TooFine
+            | Fault::TooMany => 8,
             Fault::Writing => 4,
             Fault::NoMemory => 9,
         }
@@ -75,17 +83,11 @@ impl Fault {
             Fault::Words => text.push(b"sg: words are not a command in range\n"),
             Fault::Reading => text.push(b"sg: reading failed\n"),
             Fault::TooLong => text.push(b"sg: input too long\n"),
-            Fault::Unreadable(line) => {
-                text.push(b"sg: line ");
-                text.push(Buffer::new().format(line).as_bytes());
-                text.push(b": not a triplet\n");
-            }
-            Fault::NotUnimodular(line) => {
-                text.push(b"sg: line ");
-                text.push(Buffer::new().format(line).as_bytes());
-                text.push(b": not unimodular\n");
-            }
+            Fault::Unreadable(line) => push_at_line(&mut text, line, b": not a triplet\n"),
+            Fault::NotUnimodular(line) => push_at_line(&mut text, line, b": not unimodular\n"),
             Fault::Unclosed => text.push(b"sg: operators do not close\n"),
+            Fault::BadData(line) => push_at_line(&mut text, line, b": not a data line\n"),
+            Fault::TooManySites => text.push(b"sg: too many data lines\n"),
             Fault::NotKept => text.push(b"sg: grid is not kept\n"),
             Fault::NotCell => text.push(b"sg: changed cell is no lattice cell\n"),
             Fault::NotWhole => text.push(b"sg: changed entry is not whole\n"),
@@ -105,6 +107,16 @@ impl Fault {
         }
         text
     }
+}
+
+/// Adds what is told of a line of the input.
+fn push_at_line(text: &mut Text, line: u32, what: &[u8])
+    requires { length text.old + length what.now + 32 ≤ ROOM }
+    ensures { text.new ≡ text.old ++ at_line line what.now }
+{
+    text.push(b"sg: line ");
+    text.push(Buffer::new().format(line).as_bytes());
+    text.push(what);
 }
 
 impl From<ReadStop> for Fault {
@@ -175,6 +187,18 @@ impl From<RecellFault> for Fault {
             RecellFault::Fine => Fault::TooFine,
             RecellFault::Many => Fault::TooMany,
             RecellFault::NoMemory => Fault::NoMemory,
+        }
+    }
+}
+
+impl From<AtomFault> for Fault {
+    ghost from_gives = { λ stop fault. fault ≡ fault_of_atoms stop };
+
+    fn from(stop: AtomFault) -> Fault {
+        match stop {
+            AtomFault::Bad(line) => Fault::BadData(line),
+            AtomFault::Many => Fault::TooManySites,
+            AtomFault::NoMemory => Fault::NoMemory,
         }
     }
 }

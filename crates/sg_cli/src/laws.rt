@@ -1,13 +1,13 @@
 ghost use Rattle.std.specs.Prelude.{◌≡◌, ◌≤◌, List, ℕ, length};
-ghost use Rattle.lattice_algebra.specs.Operator.{Operator};
 ghost use Rattle.lattice_algebra.specs.Point.{Point, IsPoint};
-ghost use Rattle.triplet_text.specs.Lines.{lines_of, AreRead};
 ghost use Rattle.phase_rules.specs.declared.pairs.Pairs.{Pairs};
 ghost use Rattle.reflections.specs.Boxes.{Box};
 ghost use Rattle.table_print.specs.Rows.{IsRowsText};
 ghost use Rattle.table_print.specs.Table.{IsTableText};
 ghost use Rattle.sg_cli.specs.Answer.{Answer, IsAnswer};
-ghost use Rattle.sg_cli.specs.Laws.{GenerateOneGroup, HaveOneText};
+ghost use Rattle.sg_cli.specs.Words.{Asked, IsAsked};
+ghost use Rattle.sg_cli.specs.Inputs.{input_for};
+ghost use Rattle.sg_cli.specs.Laws.{HaveOneGroup, HaveOneText};
 ghost use Rattle.sg_cli.specs.Wyckoff.{IsTextOfRows, IsFitText};
 
 use crate::MAX_INPUT;
@@ -24,12 +24,12 @@ pub fn some_answer()
         → (answer : Answer) × IsAnswer words bytes answer }
 {}
 
-/// The answer is a function of the group: inputs whose operators generate one group have one answer to the same words.
+/// The answer is a function of the group and the data lines: inputs whose operators generate one group, and which have the same
+/// data lines where the words ask for some, have one answer to the same words.
 pub fn answer_of_one_group()
-    ensures { (words : List (List ℕ)) (bytes others : List ℕ) (list other : List Operator)
-        (a b : Answer) → length bytes ≤ MAX_INPUT → length others ≤ MAX_INPUT
-        → AreRead (lines_of bytes) list
-        → AreRead (lines_of others) other → GenerateOneGroup list other
+    ensures { (words : List (List ℕ)) (bytes others : List ℕ) (a b : Answer)
+        → length bytes ≤ MAX_INPUT → length others ≤ MAX_INPUT
+        → ((asked : Asked) → IsAsked words asked → HaveOneGroup (input_for asked) bytes others)
         → IsAnswer words bytes a → IsAnswer words others b → a ≡ b }
 {}
 

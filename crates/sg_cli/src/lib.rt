@@ -10,18 +10,16 @@
 //! generate one group have one answer (`answer_of_one_group`), and one text of rows (`rows_of_one_group`).
 #![tactic(auto)]
 
-mod answer;
-mod changes;
+mod answers;
+mod call;
 mod fault;
 mod laws;
-mod numbers;
-mod rows;
 mod words;
 
-pub use answer::{run, tell};
+pub use call::{run, tell};
 pub use fault::Fault;
 pub use laws::{answer_is_unique, answer_of_one_group, rows_of_one_group, some_answer};
-pub use words::{Command, read_words};
+pub use words::{Command, Input, read_words};
 
 /// The most digits that a whole number among the words has.
 pub const NUMBER_DIGITS: usize = 9;

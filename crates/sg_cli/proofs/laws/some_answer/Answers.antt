@@ -1,4 +1,4 @@
-use Rattle.sg_cli.proofs.Answers as answers
+use Rattle.sg_cli.proofs.Soundness as answers
 use Rattle.sg_cli.proofs.laws.some_answer.Goals as goal
 
 pub returns : goal.returns

@@ -1,9 +1,0 @@
-use Rattle.std.proofs.Common.{refl}
-use Rattle.sg_cli.specs.Words.{AreIndexTexts}
-use Rattle.sg_cli.proofs.ThreeWords.{three_and_further}
-use Rattle.sg_cli.proofs.words.index_command.Goals as goal
-
-pub returns-clause-some : goal.returns-clause-some
-returns-clause-some c =
-    let said = rw (c.as_bytes.ensures.value, c.as_bytes-2.ensures.value, c.as_bytes-3.ensures.value) at c.in_ok-index.ensures.some in
-    (refl, three_and_further AreIndexTexts _ _ _ _ _ _ c.in_ok-x.ensures.some said)
