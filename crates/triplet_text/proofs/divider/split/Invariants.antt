@@ -6,7 +6,6 @@ use Rattle.triplet_text.proofs.divider.split.Given as goal
 abbrev pub invariant-loop-rest : goal.invariant-loop-rest
 invariant-loop-rest l = record {
   way : IsUnderWay l.bytes l.rest l.head l.line;
-  within : l.head ≤ length l.bytes;
   count : l.line + left l.rest ≤ length l.bytes + 2;
 }
 
