@@ -2,10 +2,8 @@
 use Rattle.std.proofs.Common.{List}
 use mir.Raw.{raw}
 use base.Shift.{Keyless}
-use denote.RattleType.{RattleType}
 use denote.Memory.{lone}
 use denote.RawPtr.{Ptr}
-use denote.Builtin.{RawPtr}
 use denote.Param.Send.{IsSend, AllSend, owning_send, struct_send, sendable}
 use denote.Struct.Owning.{shape, fields, to}
 use denote.Struct.Struct.{exits_of}
