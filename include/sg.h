@@ -52,7 +52,9 @@ enum {
     SG_NOT_KEPT = 8,       /* the group does not keep the grid, or there is no group in the other basis or cell */
     SG_NO_MEMORY = 9,      /* memory was wanted */
     SG_TOO_LONG = 10,      /* the input has more than SG_MAX_INPUT bytes */
-    SG_EMPTY = 11          /* the sg_group holds no group */
+    SG_BAD_DATA = 11,      /* a data line is none of the command */
+    SG_WRONG_COUNT = 12,   /* too many data lines, or another number of values than the grid has points */
+    SG_EMPTY = 13          /* the sg_group holds no group */
 };
 
 /* ---- Ranges and units. */

@@ -44,7 +44,9 @@ class Status(enum.IntEnum):
     NOT_KEPT = 8
     NO_MEMORY = 9
     TOO_LONG = 10
-    EMPTY = 11
+    BAD_DATA = 11
+    WRONG_COUNT = 12
+    EMPTY = 13
 
 
 class Error(ValueError):

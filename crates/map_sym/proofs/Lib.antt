@@ -1,3 +1,5 @@
+mod PlainSteps
+mod PlainTaken
 pub mod Sums
 pub mod OrbitSums
 pub mod OneMap

@@ -2,3 +2,4 @@ pub mod SummedMaps
 pub mod Steps
 pub mod MapTexts
 pub mod ValueLines
+pub mod PlainLines

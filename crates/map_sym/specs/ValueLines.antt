@@ -5,7 +5,6 @@ use Rattle.data_lines.specs.Fields.{fields_of}
 use Rattle.data_lines.specs.DataLines.{AreWritten, IsBadLine, IsFirstSuch}
 use Rattle.grid_tags.specs.Grids.{Grid, points}
 use Rattle.map_sym.specs.declared.reading.TheConstants.{VALUE_DIGITS}
-use Rattle.map_sym.specs.declared.reading.Value.{Value}
 use Rattle.map_sym.specs.declared.reading.ValueFault.{ValueFault}
 use Rattle.map_sym.specs.declared.reading.ValueFault.TheVariants.{Bad, Count, NoMemory}
 use Rattle.map_sym.specs.SummedMaps.{GridValues, AreAllPoints}
@@ -38,8 +37,3 @@ abbrev pub IsValueFaultOf : ℕ → List (List ℕ) → Grid → ValueFault → 
 IsValueFaultOf first lines size (Bad k) = IsFirstBad first lines k
 IsValueFaultOf first lines size (Count n) = IsOtherCount lines size n
 IsValueFaultOf first lines size NoMemory = Unit {0}
-
--- ---- steps of reading
-
-abbrev pub number_of : Value → ℤ
-number_of value = value.number

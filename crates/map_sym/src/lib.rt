@@ -13,6 +13,7 @@
 
 mod gathering;
 mod laws;
+mod plain_lines;
 mod printing;
 mod reading;
 mod sym_map;

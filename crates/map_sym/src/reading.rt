@@ -1,13 +1,16 @@
-ghost use Rattle.std.specs.Prelude.{◌≡◌, ◌+◌, ◌<◌, ◌^◌, ℤ, map, IfSome, IfNone, IfOk, IfErr, length};
+ghost use Rattle.std.specs.Prelude.{◌≡◌, ◌+◌, ◌<◌, ◌^◌, ◌++◌, ◌∷◌, [], ℤ, IfSome, IfNone, OnOk, IfOk, IfErr, length};
 ghost use Rattle.triplet_text.specs.Lines.{lines_of};
-ghost use Rattle.map_sym.specs.ValueLines.{IsValueLine, AreValuesOf, IsValueFaultOf, number_of};
+ghost use Rattle.data_lines.specs.DataLines.{AreWritten};
+ghost use Rattle.map_sym.specs.declared.reading.ValueFault.TheVariants.{NoMemory};
+ghost use Rattle.map_sym.specs.ValueLines.{IsValueLine, AreValuesOf, IsValueFaultOf};
+ghost use Rattle.map_sym.specs.PlainLines.{IsTaken, IsLineFaultAt, IsLineFaultOf};
 
+use crate::plain_lines::plain_line;
 use crate::values::Values;
-use data_lines::{DataFault, Datum, one_field, read_data};
-use exact_ops::NoMemory;
+use data_lines::one_field;
 use grid_tags::GridSize;
 use std::alloc::Global;
-use triplet_text::read_integer;
+use triplet_text::{cut_line, is_skipped_line, read_integer};
 
 /// The most digits that a value has.
 pub const VALUE_DIGITS: usize = 9;
@@ -46,45 +49,62 @@ pub fn read_values(
     ensures ok { IfOk result (AreValuesOf (lines_of bytes.now) size.now) }
     ensures fault { IfErr result (IsValueFaultOf line (lines_of bytes.now) size.now) }
 {
-    let read = match read_data::<Value>(alloc, bytes, line) {
-        Ok(read) => read,
-        Err(DataFault::Bad(k)) => return Err(ValueFault::Bad(k)),
-        Err(DataFault::NoMemory) => return Err(ValueFault::NoMemory),
-    };
-    if read.len() != size.points() {
-        return Err(ValueFault::Count(read.len() as u32));
+    let values = read_lines(alloc, bytes, line)?;
+    if values.len() != size.points() {
+        return Err(ValueFault::Count(values.len() as u32));
     }
-    let Ok(numbers) = numbers(alloc, &read) else {
-        return Err(ValueFault::NoMemory);
-    };
-    Ok(Values::of(size, numbers))
+    Ok(Values::of(size, values))
 }
 
-/// A value, as it is read from a data line.
-#[derive(Clone, Copy, PartialEq, Eq, Debug, Drop)]
-struct Value {
-    number: i32,
-}
-
-impl Datum for Value {
-    ghost is = { λ line value. IsValueLine line (number_of value) };
-
-    fn read(line: &[u8]) -> Option<Value> {
-        let number = read_value(line)?;
-        Some(Value { number })
-    }
-}
-
-fn numbers(alloc: Global, values: &[Value]) -> Result<Vec<i32>, NoMemory>
-    ensures { IfOk result (λ numbers. numbers.items ≡ map number_of values.now) }
+/// The values that the lines write that are not skipped, in order.
+fn read_lines(alloc: Global, bytes: &[u8], first: u32) -> Result<Vec<i32>, ValueFault>
+    requires { length bytes.now + first + 1 < 2 ^ 32 }
+    ensures ok { IfOk result (λ values. AreWritten IsValueLine (lines_of bytes.now) values.items) }
+    ensures fault { IfErr result (IsLineFaultOf first (lines_of bytes.now)) }
 {
-    let Ok(mut numbers) = Vec::with_capacity(alloc, values.len()) else {
-        return Err(NoMemory);
-    };
-    for value in values {
-        let Ok(()) = numbers.push(value.number) else {
-            return Err(NoMemory);
-        };
+    let mut values = Vec::new(alloc);
+    let mut number = first;
+    let mut rest = Some(bytes);
+    while let Some(text) = rest {
+        match take_line(&mut values, number, text) {
+            Err(fault) => return Err(fault),
+            Ok(more) => rest = more,
+        }
+        number += 1;
     }
-    Ok(numbers)
+    Ok(values)
+}
+
+/// Adds the value that the first line of the text writes, which has this number, and gives what follows its line feed.
+fn take_line<'a>(
+    values: &mut Vec<i32>,
+    number: u32,
+    text: &'a [u8],
+) -> Result<Option<&'a [u8]>, ValueFault>
+    ensures taken { IfOk result (λ more. IsTaken text.now more values.old.items values.new.items) }
+    ensures fault { IfErr result (IsLineFaultAt number (lines_of text.now)) }
+{
+    if let Some((value, rest)) = plain_line(text) {
+        push(values, value)?;
+        return Ok(Some(rest));
+    }
+    let (line, more) = cut_line(text);
+    if is_skipped_line(line) {
+        return Ok(more);
+    }
+    let Some(value) = read_value(line) else {
+        return Err(ValueFault::Bad(number));
+    };
+    push(values, value)?;
+    Ok(more)
+}
+
+fn push(values: &mut Vec<i32>, value: i32) -> Result<(), ValueFault>
+    ensures value { OnOk result (values.new.items ≡ values.old.items ++ value ∷ []) }
+    ensures fault { IfErr result (λ fault. fault ≡ NoMemory) }
+{
+    match values.push(value) {
+        Ok(()) => Ok(()),
+        Err(_) => Err(ValueFault::NoMemory),
+    }
 }

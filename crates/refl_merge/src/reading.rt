@@ -13,7 +13,7 @@ use std::alloc::Global;
 use triplet_text::read_integer;
 
 /// The most digits that a number of an index has.
-pub const INDEX_DIGITS: usize = 5;
+pub const INDEX_DIGITS: usize = 9;
 
 /// The most digits that a value has.
 pub const VALUE_DIGITS: usize = 9;

@@ -1,5 +1,6 @@
 ghost use Rattle.std.specs.Prelude.{◌≡◌, ◌≢◌, ◌↔◌, ◌≤◌, None, Some, List, IfSome, IsNone, length, slice_get, MatchResult};
 ghost use Rattle.lattice_algebra.specs.Operator as lattice;
+ghost use Rattle.sg_cli.specs.declared.words.Input.TheVariants.{Operators};
 ghost use Rattle.sg_cli.specs.Run.{IsGroupOf};
 ghost use Rattle.sg_c.specs.Groups.{IsClosingFault, IsRefusedAs, line_of};
 ghost use Rattle.sg_c.specs.Questions.{IsOperatorAt};
@@ -22,7 +23,7 @@ pub struct Operator {
 
 /// The group that the operators of the input generate. The input is as that of the program: a triplet a line.
 fn close_text(alloc: Global, text: &[u8]) -> Result<Box<Group>, Fault>
-    ensures { MatchResult result (λ group. IsGroupOf text.now group.value)
+    ensures { MatchResult result (λ group. IsGroupOf Operators text.now group.value)
         (IsClosingFault text.now) }
 {
     if text.len() > MAX_INPUT as usize {
@@ -46,7 +47,7 @@ pub extern "C" fn sg_group_close(
     line: &mut u32,
 ) -> u8
     ensures group { result ≡ 0 → (members : List lattice.Operator)
-        × (group.new.group ≡ Some members) × IsGroupOf text.now members }
+        × (group.new.group ≡ Some members) × IsGroupOf Operators text.now members }
     ensures refused { result ≢ 0 → IsRefusedAs text.now result line.new }
     ensures none { result ≢ 0 → group.new.group ≡ None }
     ensures no_line { result ≡ 0 → line.new ≡ 0 }

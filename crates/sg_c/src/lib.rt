@@ -19,4 +19,4 @@ mod words;
 pub const OUT_OF_RANGE: u8 = 2;
 
 /// The status of a question about a handle that holds no group.
-pub const EMPTY: u8 = 11;
+pub const EMPTY: u8 = 13;

@@ -1,9 +1,11 @@
 -- What each command answers over a group and data lines is sound: it has one outcome, and each refusal comes before the first byte.
 use Rattle.std.proofs.Common.{◌≡◌, ℕ, List, length, refl, sym, subst, ◌∙◌}
+use Rattle.std.proofs.lemmas.Bool.{cases_eq}
 use Rattle.lattice_algebra.specs.Operator.{Operator}
 use Rattle.lattice_algebra.specs.Point as rational
 use Rattle.exact_ops.specs.declared.TheConstants.{UNIT}
 use Rattle.group_closure.specs.GroupList.{IsGroup}
+use Rattle.grid_tags.specs.Grids.{points}
 use Rattle.grid_tags.proofs.KeptOrNot.{kept_or_not}
 use Rattle.space_groups.specs.Bases.{CoordinateChange, IsChange, IsChangedGroup}
 use Rattle.space_groups.proofs.Changes.{IsChange-basis}
@@ -23,7 +25,11 @@ use Rattle.table_print.specs.Types.{IsTypeLine}
 use Rattle.table_print.proofs.SiteTexts as texts
 use Rattle.table_print.proofs.ClassTexts as classes
 use Rattle.table_print.proofs.GridTexts as orbits
+use Rattle.table_print.specs.Params.{IsParamsText}
+use Rattle.table_print.proofs.FormTexts.{one_params_text, some_params_text}
 use Rattle.table_print.proofs.TablePages.{one_table_text, some_table_text}
+use Rattle.json_report.specs.Report.{IsReportText}
+use Rattle.json_report.proofs.ReportTexts.{one_report_text, some_report_text}
 use Rattle.table_print.proofs.TypeLines.{one_operator_line, some_operator_line, one_type_line, some_type_line}
 use Rattle.atom_expand.specs.declared.TheConstants.{MAX_ATOMS}
 use Rattle.sg_cli.specs.declared.words.Name.{Name}
@@ -37,7 +43,13 @@ use Rattle.sg_cli.proofs.PointWords.{scaled_point, is_point}
 use Rattle.sg_cli.proofs.ChangeWords.{basis_change, cell_change}
 use Rattle.sg_cli.proofs.WyckoffTexts.{one_text_of_rows, some_text_of_rows, one_fit_text, some_fit_text}
 use Rattle.sg_cli.proofs.SampleTexts.{one_counted_text, some_counted_text}
+use Rattle.refl_merge.specs.MeasuredLines.{IsMeasuredLine}
+use Rattle.refl_merge.proofs.LineTexts.{one_measured, measured_or_not}
+use Rattle.map_sym.specs.ValueLines.{IsValueLine}
+use Rattle.map_sym.proofs.ValueLaws.{one_value, value_or_none}
 use Rattle.sg_cli.proofs.SiteStages.{sound_sites, one_expanded_text, some_expanded_text}
+use Rattle.sg_cli.proofs.DataStages.{sound_gathering}
+use Rattle.sg_cli.proofs.DataTexts.{one_merged_text, some_merged_text, one_summed_text, some_summed_text}
 
 -- ---- texts
 
@@ -92,6 +104,10 @@ sound_answering named.Recell c words members rest h g =
     sound_giving (one_changed_text members c i) (some_changed_text members c (changed_of_few members g c i may (needed few)))
 sound_answering named.Wyckoff given words members rest h g =
     sound_giving (one_text_of_rows members g (IsRowsText members) (λ rows table s t p q. p ∙ sym q)) (some_text_of_rows members g (IsRowsText members) (λ rows table. (_, refl)))
+sound_answering named.Params given words members rest h g =
+    sound_giving (one_text_of_rows members g (IsParamsText members) (λ rows table. one_params_text members rows g)) (some_text_of_rows members g (IsParamsText members) (λ rows table. some_params_text members rows g))
+sound_answering named.Report given words members rest h g =
+    sound_giving (one_text_of_rows members g (IsReportText members) (λ rows table. one_report_text members rows g)) (some_text_of_rows members g (IsReportText members) (λ rows table. some_report_text members rows g))
 sound_answering named.Fit x words members rest h g =
     let p = is_point x (scaled_point words x h) in
     sound_giving (one_text_of_rows members g (IsFitText members x) (one_fit_text members g x p)) (some_text_of_rows members g (IsFitText members x) (some_fit_text members g x p))
@@ -103,3 +119,12 @@ sound_answering named.Atoms given words members rest h g =
     sound_behind (sound_sites rest) λ sites s.
     sound_behind (sound_needing tt (at_most (length sites) MAX_ATOMS)) λ _ few.
     sound_giving (one_expanded_text members g rest sites s) (some_expanded_text members g rest sites s)
+sound_answering named.Merge pairs words members rest h g =
+    sound_behind (sound_gathering IsMeasuredLine one_measured measured_or_not rest) λ lines _.
+    sound_giving (one_merged_text pairs members g lines) (some_merged_text pairs members g lines)
+sound_answering named.Map s words members rest h g =
+    let r = h.say.in_range in
+    sound_behind (sound_gathering IsValueLine one_value value_or_none rest) λ values _.
+    sound_behind (sound_needing tt (cases_eq (length values) (points s))) λ _ _.
+    sound_behind (sound_needing tt (kept_or_not members s r)) λ _ k.
+    sound_giving (one_summed_text members g s r (needed k) values) (some_summed_text members g s r (needed k) values)

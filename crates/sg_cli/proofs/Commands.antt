@@ -4,10 +4,10 @@ use Rattle.phase_rules.specs.declared.pairs.Pairs.{Pairs}
 use Rattle.phase_rules.specs.declared.pairs.Pairs.TheVariants.{Friedel, Apart}
 use Rattle.sg_cli.specs.declared.words.Name.{Name}
 use Rattle.std.specs.Prelude.{codes}
-use Rattle.sg_cli.specs.Words.{Family, Bare, OfPoint, OfIndex, OfBox, OfGrid, OfBasis, OfCell, OfSeed, IsSeedText, AreThree, AreIndexTexts, AreBoxTexts, AreGridTexts, IsBasisText, AreCellTexts, MayEndWith, are_apart, Given, HasArguments, written, family, Asked, IsAsked, IsNoCommand}
+use Rattle.sg_cli.specs.Words.{Family, Bare, OfPoint, OfIndex, OfBox, OfGrid, OfBasis, OfCell, OfSeed, OfPairs, pairs_words, IsSeedText, AreThree, AreIndexTexts, AreBoxTexts, AreGridTexts, IsBasisText, AreCellTexts, MayEndWith, are_apart, Given, HasArguments, written, family, Asked, IsAsked, IsNoCommand}
 use Rattle.sg_cli.proofs.Names.{one_name, name_or_none}
 use Rattle.sg_cli.proofs.ThreeWords.{three_long, one_of_three, three_or_none}
-use Rattle.sg_cli.proofs.FurtherWord.{one_may_end, may_end_or_not}
+use Rattle.sg_cli.proofs.FurtherWord.{is_alone, one_may_end, may_end_or_not}
 use Rattle.triplet_text.specs.Points.{ArePointTexts}
 use Rattle.triplet_text.proofs.PointTexts.{point_of_texts, point_or_none}
 use Rattle.sg_cli.proofs.FewWords.{one_of_one, one_or_none, one_of_two, two_or_none}
@@ -35,6 +35,24 @@ same_pairs {A} a b e =
     let second = one_pairs a.1 b.1 (ap (λ (g : A × Bool). g.1) e) in
     λ i. (first i, second i)
 
+one_pairs_words : (a b : Pairs) (words : List (List ℕ)) → words ≡ pairs_words a → words ≡ pairs_words b → a ≡ b
+one_pairs_words Friedel Friedel words p q = refl
+one_pairs_words Friedel Apart words p q = let e = sym p ∙ q in absurd cc
+one_pairs_words Apart Friedel words p q = let e = sym p ∙ q in absurd cc
+one_pairs_words Apart Apart words p q = refl
+
+pairs_or_none : (words : List (List ℕ)) → ((pairs : Pairs) × (words ≡ pairs_words pairs)) ⊎ ((pairs : Pairs) → words ≡ pairs_words pairs → ⊥)
+pairs_or_none [] = inl (Friedel, refl)
+pairs_or_none (first ∷ more) = by (is_alone anomalous (first ∷ more))
+  where
+    no : (first ∷ more ≡ anomalous ∷ [] → ⊥) → (pairs : Pairs) → first ∷ more ≡ pairs_words pairs → ⊥
+    no n Friedel e = absurd cc
+    no n Apart e = n e
+
+    by : (first ∷ more ≡ anomalous ∷ []) ⊎ (first ∷ more ≡ anomalous ∷ [] → ⊥) → ((pairs : Pairs) × (first ∷ more ≡ pairs_words pairs)) ⊎ ((pairs : Pairs) → first ∷ more ≡ pairs_words pairs → ⊥)
+    by (inl e) = inl (Apart, e)
+    by (inr n) = inr (no n)
+
 module _ {A : Type 0} (Say : List ℕ → List ℕ → List ℕ → A → Type 0) (words : List (List ℕ)) where
   abbrev Ends : A → Bool → Type 0
   Ends a apart = MayEndWith anomalous (λ three. AreThree Say three a) words apart
@@ -54,6 +72,7 @@ one_given OfGrid a b words p q = one_of_three AreGridTexts one_grid a b words p 
 one_given OfBasis a b words p q = one_of_one IsBasisText one_basis a b words p q
 one_given OfCell a b words p q = one_of_two AreCellTexts one_cell a b words p q
 one_given OfSeed a b words p q = one_of_one IsSeedText one_seed a b words p q
+one_given OfPairs a b words p q = one_pairs_words a b words p q
 
 abbrev GivenOrNone : Family → List (List ℕ) → Type 0
 GivenOrNone f words = ((given : Given f) × HasArguments f given words) ⊎ ((given : Given f) → HasArguments f given words → ⊥)
@@ -68,6 +87,7 @@ given_or_none OfGrid words = three_or_none AreGridTexts grid_or_none words
 given_or_none OfBasis words = one_or_none IsBasisText basis_or_none words
 given_or_none OfCell words = two_or_none AreCellTexts cell_or_none words
 given_or_none OfSeed words = one_or_none IsSeedText seed_or_none words
+given_or_none OfPairs words = pairs_or_none words
 
 -- ---- commands
 

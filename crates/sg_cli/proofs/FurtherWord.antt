@@ -8,7 +8,7 @@ use Rattle.std.proofs.lemmas.List.{take_at}
 use Rattle.std.proofs.Math.Seq.{drop-append_seam}
 use Rattle.sg_cli.specs.Words.{MayEndWith}
 
-is_alone : (word : List ℕ) (words : List (List ℕ)) → (words ≡ word ∷ []) ⊎ (words ≡ word ∷ [] → ⊥)
+pub is_alone : (word : List ℕ) (words : List (List ℕ)) → (words ≡ word ∷ []) ⊎ (words ≡ word ∷ [] → ⊥)
 is_alone word [] = inr (λ e. absurd cc)
 is_alone word (first ∷ []) =
     ⊎_elim

@@ -13,6 +13,7 @@ pub mod DataStages
 mod WyckoffTexts
 mod SampleTexts
 mod SiteStages
+mod DataTexts
 mod Answering
 pub mod Soundness
 mod Tabled

@@ -5,19 +5,15 @@ use Rattle.std.specs.Str.{bytes_eq}
 use Rattle.std.proofs.lemmas.Slice.Eq.{bytes_eq-Decides}
 use Rattle.sg_cli.specs.declared.words.Name.{Name}
 use Rattle.sg_cli.specs.declared.words.Name.TheVariants as named
-use Rattle.sg_cli.specs.Words.{written}
+use Rattle.sg_cli.specs.Words.{written, all_names}
 
 -- the first of the names that is written so
 first_written : List Name → List ℕ → Option Name
 first_written [] word = None
 first_written (name ∷ names) word = if bytes_eq (written name) word then Some name else first_written names word
 
-all_names : List Name
-all_names =
-    named.Ops ∷ named.Types ∷ named.Site ∷ named.Index ∷ named.Refl ∷ named.Grid ∷ named.Basis ∷ named.Recell ∷ named.Wyckoff ∷ named.Fit ∷ named.Table ∷ named.Sample ∷ named.Atoms ∷ []
-
 found : (name : Name) → first_written all_names (written name) ≡ Some name
-unfolding first_written all_names
+unfolding first_written
 found named.Ops = refl
 found other = refl
 

@@ -1,5 +1,5 @@
 -- From what the steps of a call did, by their outcomes, to what the stages of the answer say.
-use Rattle.std.proofs.Common.{◌≡◌, ◌≤◌, ℕ, List, [], length, take, drop, Result, Ok, Err, refl, inl, inr, arith}
+use Rattle.std.proofs.Common.{◌≡◌, ◌≤◌, ℕ, List, [], length, take, drop, Result, Ok, Err, refl, subst, ◌∙◌, inl, inr, arith}
 use Rattle.std.specs.Prelude.{OnOk, OnErr, IsErrOf}
 use Rattle.std.proofs.lemmas.List.{append-nil}
 use Rattle.std.specs.Io.KnownBytes.{Appends}
@@ -24,7 +24,7 @@ use Rattle.group_closure.specs.GroupList.{IsGroupList}
 use Rattle.grid_tags.specs.declared.grid_orbits.GridFault.{GridFault}
 use Rattle.grid_tags.specs.declared.grid_orbits.GridFault.TheVariants as grid_faults
 use Rattle.grid_tags.specs.Grids as grids
-use Rattle.grid_tags.specs.Grids.{IsKept}
+use Rattle.grid_tags.specs.Grids.{IsKept, points}
 use Rattle.space_groups.specs.Bases.{CoordinateChange, AreNarrow, IsMoreThan}
 use Rattle.basis_change.specs.declared.basis.ChangeFault.{ChangeFault}
 use Rattle.basis_change.specs.declared.basis.ChangeFault.TheVariants as changes
@@ -35,6 +35,19 @@ use Rattle.atom_expand.specs.declared.TheConstants.{MAX_ATOMS}
 use Rattle.atom_expand.specs.declared.atoms.AtomFault.{AtomFault}
 use Rattle.atom_expand.specs.declared.atoms.AtomFault.TheVariants as atoms
 use Rattle.atom_expand.specs.Sites.{AtomSite, IsAtomLine, AreAtomLines, IsAtomFaultOf}
+use Rattle.data_lines.specs.declared.read.DataFault.{DataFault}
+use Rattle.data_lines.specs.declared.read.DataFault.TheVariants as data_faults
+use Rattle.data_lines.specs.DataLines.{AreWritten, IsDataFaultOf}
+use Rattle.phase_rules.specs.declared.pairs.Pairs.{Pairs}
+use Rattle.refl_merge.specs.declared.measured.Measured.{Measured}
+use Rattle.refl_merge.specs.MeasuredLines.{IsMeasuredLine, AreMeasuredLines}
+use Rattle.refl_merge.specs.Texts.{IsMergedText}
+use Rattle.map_sym.specs.declared.reading.ValueFault.{ValueFault}
+use Rattle.map_sym.specs.declared.reading.ValueFault.TheVariants as value_faults
+use Rattle.map_sym.specs.SummedMaps.{GridValues, SummedMap, IsSummedMap}
+use Rattle.map_sym.specs.ValueLines.{IsValueLine, AreValuesOf, IsValueFaultOf}
+use Rattle.map_sym.specs.MapTexts.{IsMapText}
+use Rattle.page_print.specs.Parts.{Is}
 use Rattle.page_print.specs.Printing.{Counts, Prints}
 use Rattle.table_print.specs.Grids.{IsGridText}
 use Rattle.sg_cli.specs.declared.words.Input.{Input}
@@ -42,9 +55,9 @@ use Rattle.sg_cli.specs.declared.words.Input.TheVariants.{OperatorsAndData}
 use Rattle.sg_cli.specs.declared.fault.Fault.{Fault}
 use Rattle.sg_cli.specs.declared.fault.Fault.TheVariants as fault
 use Rattle.sg_cli.specs.Inputs.{DataLines, no_data}
-use Rattle.sg_cli.specs.Fault.{fault_of_lines, fault_of_close, fault_of_grid, fault_of_change, fault_of_recell, fault_of_atoms, fault_of_write}
+use Rattle.sg_cli.specs.Fault.{fault_of_lines, fault_of_close, fault_of_grid, fault_of_change, fault_of_recell, fault_of_atoms, fault_of_data, fault_of_values, fault_of_write}
 use Rattle.sg_cli.specs.Stages.{Gives, Refuses, Stage, holds, fails, behind, refused}
-use Rattle.sg_cli.specs.Answering.{gathered, bad, OverGrid, OverBasis, OverCell, OverSites, IsChangedText, IsExpandedText, Printing}
+use Rattle.sg_cli.specs.Answering.{gathered, bad, OverGrid, OverBasis, OverCell, OverSites, OverMeasured, OverValues, IsChangedText, IsExpandedText, Printing}
 use Rattle.sg_cli.specs.Answer.{Answer, listed, unreadable, not_unimodular, closed, unclosed, Over, OverLines}
 use Rattle.sg_cli.specs.Run.{IsTold}
 use Rattle.sg_cli.specs.Steps.{IsDataText, AreCut, Answers, Counted}
@@ -57,6 +70,12 @@ pub told : {K : Type 0} (sink : SeenSink K) (old new : K) (text : List ℕ) (res
 told sink old new text (Ok done) ok err failed no_memory = record { front = (text, ([], append-nil text), ok); whole = λ faults wants. ok }
 told sink old new text (Err sinks.Failed) ok err failed no_memory = record { front = err; whole = λ faults wants. absurd (faults (failed refl)) }
 told sink old new text (Err sinks.NoMemory) ok err failed no_memory = record { front = err; whole = λ faults wants. absurd (wants (no_memory refl)) }
+
+-- what writing a text did is what printing it does
+pub put_prints : {K : Type 0} (sink : SeenSink K) (old new : K) (text : List ℕ) (result : Result (Unit {0}) SinkStop)
+    → OnOk result (Appends (sink.held old) (sink.held new) text) → OnErr result (AppendsPrefix (sink.held old) (sink.held new) text) → Counts sink old new result → Prints sink (Is text) old new result
+put_prints sink old new text (Ok done) ok err counts = record { ok = (text, refl, ok); err = tt; counts = counts }
+put_prints sink old new text (Err stop) ok err counts = record { ok = tt; err = (text, refl, err); counts = counts }
 
 -- no text is no data lines
 pub no_text : IsDataText no_data [] 1
@@ -138,6 +157,42 @@ module _ {K : Type 0} (sink : SeenSink K) where
     pub over_sites : {IsText : List ℕ → Type 0} (sites : List AtomSite) → AreAtomLines (lines_of text) sites → length sites ≤ MAX_ATOMS → ((text : List ℕ) → IsText text → IsExpandedText members sites text) → (new : K) (result : Result (Unit {0}) Fault) → Answers sink (Printing IsText) old new result
         → Answers sink (OverSites members rest) old new result
     over_sites sites w few f = printed (OverSites members rest) (λ t p. behind (gathered (written_there IsAtomLine rest text line is sites w)) (behind (holds few) (f t p))) old
+
+    -- measured lines that could not be read
+    pub not_measured : (pairs : Pairs) (stop : DataFault) → IsDataFaultOf IsMeasuredLine line (lines_of text) stop → Answers sink (OverMeasured pairs members rest) old old (Err (fault_of_data stop))
+    not_measured pairs (data_faults.Bad k) h = (refused (bad (bad_there IsMeasuredLine rest text line is k h)), refl)
+    not_measured pairs data_faults.NoMemory h = inl refl
+
+    -- what was printed of them
+    pub over_measured : {IsText : List ℕ → Type 0} (pairs : Pairs) (lines : List Measured) → AreMeasuredLines (lines_of text) lines → ((text : List ℕ) → IsText text → IsMergedText pairs members lines text) → (new : K) (result : Result (Unit {0}) Fault) → Answers sink (Printing IsText) old new result
+        → Answers sink (OverMeasured pairs members rest) old new result
+    over_measured pairs lines w f = printed (OverMeasured pairs members rest) (λ t p. behind (gathered (written_there IsMeasuredLine rest text line is lines w)) (f t p)) old
+
+    module _ (s : grids.Grid) where
+      -- values that could not be read
+      pub not_valued : (stop : ValueFault) → IsValueFaultOf line (lines_of text) s stop → Answers sink (OverValues members s rest) old old (Err (fault_of_values stop))
+      not_valued (value_faults.Bad k) h = (refused (bad (bad_there IsValueLine rest text line is k h)), refl)
+      not_valued (value_faults.Count n) h = (behind (gathered (written_there IsValueLine rest text line is h.values h.written)) (refused (fails (λ all. h.other (h.count ∙ all)))), refl)
+      not_valued value_faults.NoMemory h = inl refl
+
+      module _ (given : GridValues) (values : AreValuesOf (lines_of text) s given) where
+        there : AreWritten IsValueLine rest.lines given.values
+        there = written_there IsValueLine rest text line is given.values values.written
+
+        all : length given.values ≡ points s
+        all = subst (λ g. length given.values ≡ points g) values.size values.all
+
+        -- a walk that was not begun
+        pub not_begun_over : (stop : GridFault) → (stop ≡ grid_faults.NotKept → (¬ IsKept members s)) → Answers sink (OverValues members s rest) old old (Err (fault_of_grid stop))
+        not_begun_over grid_faults.NotKept h = (behind (gathered there) (behind (holds all) (refused (fails (h refl)))), refl)
+        not_begun_over grid_faults.NoMemory h = inl refl
+
+        -- what was printed of a summed map
+        pub over_values : IsKept members s → (map : SummedMap) → IsSummedMap members given map → (new : K) (result : Result (Unit {0}) Fault) → Answers sink (Printing (IsMapText members map)) old new result → Answers sink (OverValues members s rest) old new result
+        over_values kept map summed = printed (OverValues members s rest) (λ t p. behind (gathered there) (behind (holds all) (behind (holds kept) (record { map = map; summed = at_size; is_text = p })))) old
+          where
+            at_size : IsSummedMap members (record { size = s; values = given.values }) map
+            at_size = subst (λ g. IsSummedMap members (record { size = g; values = given.values }) map) values.size summed
 
   module _ (input : Input) (bytes head tail : List ℕ) (line : ℕ) (cut : AreCut input bytes head tail line) (Then : Over) (old : K) where
     abbrev OverAll : Stage (List ℕ)

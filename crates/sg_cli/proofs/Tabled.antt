@@ -12,7 +12,7 @@ use Rattle.sg_cli.specs.declared.words.Input.TheVariants.{Made}
 use Rattle.sg_cli.specs.Words.{Asked, IsAsked, Given, family}
 use Rattle.sg_cli.specs.Inputs.{input_for, DataLines, no_data}
 use Rattle.sg_cli.specs.Stages.{Gives, behind, ◌>>=◌}
-use Rattle.sg_cli.specs.Answering.{Answering, ShowsRows}
+use Rattle.sg_cli.specs.Answering.{Question, OfRows, Of, question, Asking, ShowsRows}
 use Rattle.sg_cli.specs.Answer.{command, Measuring, Listing, listed, Closing, closed, OverLines, OverInput, AnswerOver, IsAnswer}
 use Rattle.sg_cli.specs.Run.{IsGroupOf, IsGroupAsked, IsTabled}
 use Rattle.sg_cli.proofs.Commands.{one_asked}
@@ -21,16 +21,10 @@ use Rattle.sg_cli.proofs.SampleTexts.{made_is_group}
 use Rattle.sg_cli.proofs.WyckoffTexts.{some_rows}
 
 module _ (members : List Operator) (g : IsGroup members) (rest : DataLines) (text : List ℕ) where
-  abbrev Shown : (name : Name) → Given (family name) → Type 0
-  Shown name given = (rows : List Row) × IsTable UNIT members rows × ShowsRows name given members rows text
-
-  shown : (name : Name) (given : Given (family name)) → Answering name given members rest (Gives text) → Shown name given
-  shown named.Wyckoff given h = (h.rows, h.table, h.is_text)
-  shown named.Fit given h = (h.rows, h.table, h.is_text)
-  shown named.Table given h = (h.rows, h.table, h.is_text)
-  shown named.Sample given h = (h.rows, h.table, h.is_text)
+  shown : (q : Question) → Asking q members rest (Gives text) → (rows : List Row) × IsTable UNIT members rows × ShowsRows q members rows text
+  shown (OfRows IsText) h = (h.rows, h.table, h.is_text)
   -- a group has a table where none of its rows is shown too
-  shown other given h = let rows = some_rows members g in (rows.0, rows.1, tt)
+  shown (Of stage) h = let rows = some_rows members g in (rows.0, rows.1, tt)
 
 -- what is answered over the group that is asked about
 abbrev IsOver : Asked → Input → List ℕ → List ℕ → Type 0
@@ -55,5 +49,5 @@ over_input asked other bytes text h = over_read asked other bytes text h
 pub answer_tabled : (words : List (List ℕ)) (bytes text : List ℕ) (asked : Asked) → IsAsked words asked → IsAnswer words bytes (Gives text) → IsTabled bytes asked text
 answer_tabled words bytes text asked is (behind {value = other} (command was) h) =
     let o = over_input other (input_for other) bytes text h in
-    let s = shown o.0 o.2 o.1 text other.name other.given o.4 in
+    let s = shown o.0 o.2 o.1 text (question other.name other.given) o.4 in
     subst (λ (a : Asked). IsTabled bytes a text) (one_asked words other asked was is) (record { members = o.0; is_group = o.3; rows = s.0; table = s.1; shown = s.2 })

@@ -19,8 +19,12 @@ use Rattle.grid_tags.specs.declared.grid_orbits.GridFault.{GridFault}
 use Rattle.grid_tags.specs.declared.grid_orbits.GridFault.TheVariants as grids
 use Rattle.atom_expand.specs.declared.atoms.AtomFault.{AtomFault}
 use Rattle.atom_expand.specs.declared.atoms.AtomFault.TheVariants as atoms
+use Rattle.data_lines.specs.declared.read.DataFault.{DataFault}
+use Rattle.data_lines.specs.declared.read.DataFault.TheVariants as data_faults
+use Rattle.map_sym.specs.declared.reading.ValueFault.{ValueFault}
+use Rattle.map_sym.specs.declared.reading.ValueFault.TheVariants as values
 use Rattle.sg_cli.specs.declared.fault.Fault.{Fault}
-use Rattle.sg_cli.specs.declared.fault.Fault.TheVariants.{Words, Reading, TooLong, Unreadable, NotUnimodular, Unclosed, BadData, TooManySites, NotKept, NotCell, NotWhole, TooWide, TooFine, TooMany, Writing, NoMemory}
+use Rattle.sg_cli.specs.declared.fault.Fault.TheVariants.{Words, Reading, TooLong, Unreadable, NotUnimodular, Unclosed, BadData, TooManySites, WrongCount, NotKept, NotCell, NotWhole, TooWide, TooFine, TooMany, Writing, NoMemory}
 
 -- the status that the program ends with
 abbrev pub status_of : Fault → ℕ
@@ -32,6 +36,7 @@ status_of (NotUnimodular line) = 6
 status_of Unclosed = 7
 status_of (BadData line) = 11
 status_of TooManySites = 12
+status_of WrongCount = 12
 status_of NotKept = 8
 status_of NotCell = 8
 status_of NotWhole = 8
@@ -55,6 +60,7 @@ text_of (NotUnimodular line) = at_line line (codes ": not unimodular\n")
 text_of Unclosed = codes "sg: operators do not close\n"
 text_of (BadData line) = at_line line (codes ": not a data line\n")
 text_of TooManySites = codes "sg: too many data lines\n"
+text_of WrongCount = codes "sg: wrong number of values\n"
 text_of NotKept = codes "sg: grid is not kept\n"
 text_of NotCell = codes "sg: changed cell is no lattice cell\n"
 text_of NotWhole = codes "sg: changed entry is not whole\n"
@@ -105,6 +111,17 @@ abbrev pub fault_of_atoms : AtomFault → Fault
 fault_of_atoms (atoms.Bad line) = BadData line
 fault_of_atoms atoms.Many = TooManySites
 fault_of_atoms atoms.NoMemory = NoMemory
+
+-- what data lines that could not be read are as a fault
+abbrev pub fault_of_data : DataFault → Fault
+fault_of_data (data_faults.Bad line) = BadData line
+fault_of_data data_faults.NoMemory = NoMemory
+
+-- what values that could not be read are as a fault
+abbrev pub fault_of_values : ValueFault → Fault
+fault_of_values (values.Bad line) = BadData line
+fault_of_values (values.Count n) = WrongCount
+fault_of_values values.NoMemory = NoMemory
 
 -- what a write to the output that stopped is as a fault
 abbrev pub fault_of_write : SinkStop → Fault

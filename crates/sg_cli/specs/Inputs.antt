@@ -11,6 +11,8 @@ use Rattle.sg_cli.specs.Words.{Given, family, Asked, IsAsked}
 abbrev pub input_of : (name : Name) → Given (family name) → Input
 input_of named.Sample seed = Made seed
 input_of named.Atoms given = OperatorsAndData
+input_of named.Merge given = OperatorsAndData
+input_of named.Map given = OperatorsAndData
 input_of other given = Operators
 
 abbrev pub input_for : Asked → Input

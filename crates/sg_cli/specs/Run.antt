@@ -16,7 +16,7 @@ use Rattle.sg_cli.specs.declared.words.Input.{Input}
 use Rattle.sg_cli.specs.declared.words.Input.TheVariants.{Made}
 use Rattle.sg_cli.specs.Words.{Asked, IsAsked}
 use Rattle.sg_cli.specs.Inputs.{input_for, ReadsNothing, Parts, AreParts}
-use Rattle.sg_cli.specs.Answering.{ShowsRows}
+use Rattle.sg_cli.specs.Answering.{question, ShowsRows}
 use Rattle.samples.specs.Groups.{number_of, IsSampleGroup}
 use Rattle.sg_cli.specs.Answer.{Answer, IsAnswer, status_of_answer}
 use Rattle.sg_io.specs.Streams.{SeenSink}
@@ -86,7 +86,7 @@ pub record IsTabled (bytes : List ℕ) (asked : Asked) (text : List ℕ) : Type 
   pub is_group : IsGroupAsked (input_for asked) bytes members
   pub rows : List Row
   pub table : IsTable UNIT members rows
-  pub shown : ShowsRows asked.name asked.given members rows text
+  pub shown : ShowsRows (question asked.name asked.given) members rows text
 
 -- where the bytes are told, or the words read nothing, a text with this property shows these rows, where the words ask for some
 abbrev pub IfTabled : List (List ℕ) → Option (List ℕ) → (List ℕ → Type 0) → Type 0

@@ -114,6 +114,11 @@ are_apart Apart = true
 abbrev pub three_with : List ℕ → List ℕ → List ℕ → Bool → List (List ℕ)
 three_with x y z apart = (x ∷ y ∷ z ∷ []) ++ (if apart then codes "anomalous" ∷ [] else [])
 
+-- no word, or the word that takes Friedel pairs apart
+abbrev pub pairs_words : Pairs → List (List ℕ)
+pairs_words Friedel = []
+pairs_words Apart = codes "anomalous" ∷ []
+
 -- the families of arguments
 pub data Family : Type 0 where
   Bare : Family
@@ -124,6 +129,7 @@ pub data Family : Type 0 where
   OfBasis : Family
   OfCell : Family
   OfSeed : Family
+  OfPairs : Family
 
 -- what the arguments of a family give
 abbrev pub Given : Family → Type 0
@@ -135,6 +141,7 @@ Given OfGrid = grids.Grid
 Given OfBasis = CoordinateChange
 Given OfCell = CoordinateChange
 Given OfSeed = ℕ
+Given OfPairs = Pairs
 
 -- the words are arguments that give this
 abbrev pub HasArguments : (f : Family) → Given f → List (List ℕ) → Type 0
@@ -146,6 +153,7 @@ HasArguments OfGrid s words = AreThree AreGridTexts words s
 HasArguments OfBasis c words = IsOne IsBasisText words c
 HasArguments OfCell c words = AreTwo AreCellTexts words c
 HasArguments OfSeed seed words = IsOne IsSeedText words seed
+HasArguments OfPairs pairs words = words ≡ pairs_words pairs
 
 -- ---- commands
 
@@ -160,10 +168,19 @@ written named.Grid = codes "grid"
 written named.Basis = codes "basis"
 written named.Recell = codes "recell"
 written named.Wyckoff = codes "wyckoff"
+written named.Params = codes "params"
+written named.Report = codes "report"
 written named.Fit = codes "fit"
 written named.Table = codes "table"
 written named.Sample = codes "sample"
 written named.Atoms = codes "atoms"
+written named.Merge = codes "merge"
+written named.Map = codes "map"
+
+-- the names of all commands
+abbrev pub all_names : List Name
+all_names =
+    named.Ops ∷ named.Types ∷ named.Site ∷ named.Index ∷ named.Refl ∷ named.Grid ∷ named.Basis ∷ named.Recell ∷ named.Wyckoff ∷ named.Params ∷ named.Report ∷ named.Fit ∷ named.Table ∷ named.Sample ∷ named.Atoms ∷ named.Merge ∷ named.Map ∷ []
 
 -- which arguments follow it
 abbrev pub family : Name → Family
@@ -176,10 +193,14 @@ family named.Grid = OfGrid
 family named.Basis = OfBasis
 family named.Recell = OfCell
 family named.Wyckoff = Bare
+family named.Params = Bare
+family named.Report = Bare
 family named.Fit = OfPoint
 family named.Table = OfBox
 family named.Sample = OfSeed
 family named.Atoms = Bare
+family named.Merge = OfPairs
+family named.Map = OfGrid
 
 -- a command as contracts see it: its name, and what its arguments give
 pub record Asked : Type 0 where
@@ -196,10 +217,14 @@ seen (command.Grid size) = record { name = named.Grid; given = size }
 seen (command.Basis c) = record { name = named.Basis; given = c }
 seen (command.Recell c) = record { name = named.Recell; given = c }
 seen command.Wyckoff = record { name = named.Wyckoff; given = tt }
+seen command.Params = record { name = named.Params; given = tt }
+seen command.Report = record { name = named.Report; given = tt }
 seen (command.Fit p) = record { name = named.Fit; given = point_in p }
 seen (command.Table box pairs) = record { name = named.Table; given = (box, pairs) }
 seen (command.Sample seed) = record { name = named.Sample; given = seed }
 seen command.Atoms = record { name = named.Atoms; given = tt }
+seen (command.Merge pairs) = record { name = named.Merge; given = pairs }
+seen (command.Map size) = record { name = named.Map; given = size }
 
 -- the words are this name and arguments that give this
 pub record IsAsked (words : List (List ℕ)) (asked : Asked) : Type 0 where

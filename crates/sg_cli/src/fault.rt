@@ -1,14 +1,16 @@
 ghost use Rattle.std.specs.Prelude.{◌≡◌, ◌+◌, ◌≤◌, ◌++◌, length};
 ghost use Rattle.triplet_text.specs.declared.text.TheConstants.{TEXT_ROOM as ROOM};
-ghost use Rattle.sg_cli.specs.Fault.{fault_of_read, fault_of_lines, fault_of_close, fault_of_grid, fault_of_change, fault_of_recell, fault_of_atoms, fault_of_write, fault_of_want, status_of, text_of, at_line};
+ghost use Rattle.sg_cli.specs.Fault.{fault_of_read, fault_of_lines, fault_of_close, fault_of_grid, fault_of_change, fault_of_recell, fault_of_atoms, fault_of_data, fault_of_values, fault_of_write, fault_of_want, status_of, text_of, at_line};
 
 use atom_expand::AtomFault;
 use basis_change::basis::ChangeFault;
 use basis_change::cell::RecellFault;
+use data_lines::DataFault;
 use exact_ops::{NoMemory, UNIT};
 use grid_tags::GridFault;
 use group_closure::{CloseFault, MAX_OPERATORS};
 use itoa::Buffer;
+use map_sym::ValueFault;
 use sg_io::{ReadStop, SinkStop};
 use triplet_text::{LineFault, Text};
 
@@ -31,6 +33,8 @@ pub enum Fault {
     BadData(u32),
     /// There are more sites than `MAX_ATOMS`.
     TooManySites,
+    /// The number of values is not that of the grid points of a cell.
+    WrongCount,
     /// The group does not keep the grid.
     NotKept,
     /// The translation by one changed cell along some axis is no changed element.
@@ -62,7 +66,7 @@ impl Fault {
             Fault::NotUnimodular(_) => 6,
             Fault::Unclosed => 7,
             Fault::BadData(_) => 11,
-            Fault::TooManySites => 12,
+            Fault::TooManySites | Fault::WrongCount => 12,
             Fault::NotKept
             | Fault::NotCell
             | Fault::NotWhole
@@ -88,6 +92,7 @@ impl Fault {
             Fault::Unclosed => text.push(b"sg: operators do not close\n"),
             Fault::BadData(line) => push_at_line(&mut text, line, b": not a data line\n"),
             Fault::TooManySites => text.push(b"sg: too many data lines\n"),
+            Fault::WrongCount => text.push(b"sg: wrong number of values\n"),
             Fault::NotKept => text.push(b"sg: grid is not kept\n"),
             Fault::NotCell => text.push(b"sg: changed cell is no lattice cell\n"),
             Fault::NotWhole => text.push(b"sg: changed entry is not whole\n"),
@@ -219,5 +224,28 @@ impl From<NoMemory> for Fault {
 
     fn from(_: NoMemory) -> Fault {
         Fault::NoMemory
+    }
+}
+
+impl From<DataFault> for Fault {
+    ghost from_gives = { λ stop fault. fault ≡ fault_of_data stop };
+
+    fn from(stop: DataFault) -> Fault {
+        match stop {
+            DataFault::Bad(line) => Fault::BadData(line),
+            DataFault::NoMemory => Fault::NoMemory,
+        }
+    }
+}
+
+impl From<ValueFault> for Fault {
+    ghost from_gives = { λ stop fault. fault ≡ fault_of_values stop };
+
+    fn from(stop: ValueFault) -> Fault {
+        match stop {
+            ValueFault::Bad(line) => Fault::BadData(line),
+            ValueFault::Count(_) => Fault::WrongCount,
+            ValueFault::NoMemory => Fault::NoMemory,
+        }
     }
 }

@@ -1,10 +1,12 @@
 -- The line of a row in free coordinates, piece by piece.
-use Rattle.std.proofs.Common.{◌≡◌, ◌≤◌, ◌<◌, ◌*◌, ◌+◌, ℕ, List, [], ◌∷◌, ◌++◌, ℤ, pos, unsigned_abs, slice_index_or, decimal, Result, Ok, Err, refl, ap, ap₂, ◌∙◌, append_assoc, w32, w64, arith}
+use Rattle.std.proofs.Common.{◌≡◌, ◌≤◌, ◌<◌, ◌*◌, ◌+◌, ℕ, List, [], ◌∷◌, ◌++◌, ℤ, pos, unsigned_abs, slice_index_or, decimal, length, Result, Ok, Err, refl, sym, ap, ap₂, ◌∙◌, append_assoc, w32, w64, arith}
 use Rattle.std.proofs.lemmas.Int.{ints}
-use Rattle.lattice_algebra.specs.Operator.{Operator, AreWithin, IsPart}
+use Rattle.std.proofs.lemmas.Option.{slice_get_within}
+use Rattle.lattice_algebra.specs.Operator.{Operator, AreWithin, IsPart, identity_operator}
 use Rattle.lattice_algebra.proofs.Machine.{back, kept}
 use Rattle.exact_ops.specs.declared.TheConstants.{UNIT}
 use Rattle.exact_ops.proofs.Narrow.{some_parts}
+use Rattle.group_closure.specs.GroupList.{IsGroup}
 use Rattle.space_groups.specs.Keys.{Key}
 use Rattle.space_groups.specs.Rows.{Row}
 use Rattle.parameter_forms.specs.declared.TheConstants.{MAX_OVER}
@@ -17,8 +19,9 @@ use Rattle.sg_io.specs.Streams.{SeenSink}
 use Rattle.page_print.specs.Printing.{GathersText}
 use Rattle.triplet_text.specs.Bytes.{comma, space, line_feed}
 use Rattle.triplet_text.specs.Printing.{component_text, with_commas, affine_text, IsSameMap}
+use Rattle.triplet_text.proofs.AffineSame.{one_text_of_map}
 use Rattle.table_print.specs.Rows.{lines_from}
-use Rattle.table_print.specs.Params.{form_text, GivesForms, param_line}
+use Rattle.table_print.specs.Params.{form_text, GivesForms, param_line, IsParamsText}
 
 -- ---- pieces
 
@@ -75,6 +78,18 @@ module _ (one_text : (d e : ℕ) (f g : Operator) → 0 < d → 0 < e → IsSame
   pub same_lines : (k : ℕ) (rows : List Row) → lines_from (param_line form) k rows ≡ lines_from (param_line other) k rows
   same_lines k [] = refl
   same_lines k (row ∷ rest) = ap₂ (λ (s t : List ℕ). s ++ t) (same_line k row) (same_lines (k + 1) rest)
+
+-- rows have one text of their forms
+pub some_params_text : (members : List Operator) (rows : List Row) → IsGroup members → (text : List ℕ) × IsParamsText members rows text
+some_params_text members rows g =
+    let n = length members in
+    let form = found_form UNIT n in
+    (lines_from (param_line form) 0 rows, record { form = form; gives = found_gives n (slice_get_within members 0 identity_operator g.first); whole = refl })
+
+pub one_params_text : (members : List Operator) (rows : List Row) → IsGroup members → (s t : List ℕ) → IsParamsText members rows s → IsParamsText members rows t → s ≡ t
+one_params_text members rows g s t p q =
+    let some : 0 < length members = slice_get_within members 0 identity_operator g.first in
+    p.whole ∙ same_lines one_text_of_map (length members) some p.form q.form p.gives q.gives 0 rows ∙ sym q.whole
 
 -- such a text was gathered, so one that is more was
 module _ {K : Type 0} (sink : SeenSink K) (A B : List ℕ → Type 0) (more : (text : List ℕ) → A text → B text) (old new : K) (page now : List ℕ) where

@@ -5,8 +5,8 @@ pub mod ClassTexts
 pub mod ClassPages
 pub mod GridTexts
 pub mod GridPages
-mod RowSizes
-mod RowPages
+pub mod RowSizes
+pub mod RowPages
 pub mod FormTexts
 pub mod TablePages
 mod RowLines

@@ -18,7 +18,7 @@ ghost use Rattle.table_print.specs.Rows.{numbers_of_key, row_line};
 ghost use Rattle.table_print.specs.Params.{IsParamsText};
 ghost use Rattle.table_print.specs.Table.{IsTableText};
 
-use triplet_text::{affine_map_has_one_text, affine_text_has_one_map};
+use triplet_text::affine_text_has_one_map;
 
 /// Each member of a group has a line of its type, and no operator has two.
 pub fn one_type_line()
@@ -81,9 +81,7 @@ pub fn one_params_text()
         → (text : List ℕ) × IsParamsText members rows text }
     ensures one { (members : List Operator) (rows : List Row) (s t : List ℕ) → IsGroup members
         → IsParamsText members rows s → IsParamsText members rows t → s ≡ t }
-{
-    affine_map_has_one_text();
-}
+{}
 
 /// Rows and a box have a text of the command `table`, and one only.
 pub fn one_table_text()

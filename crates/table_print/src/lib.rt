@@ -25,8 +25,8 @@ pub use laws::{
     one_table_text, one_type_line,
 };
 pub use operators::print_ops;
-pub use params::print_params;
-pub use rows::{print_row, print_rows};
+pub use params::{SHOWN_FORM, print_params, push_row_form};
+pub use rows::{print_row, print_rows, row_text};
 pub use sample::print_sample;
 pub use sites::print_site;
 pub use table::print_table;

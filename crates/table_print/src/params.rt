@@ -4,6 +4,7 @@ ghost use Rattle.group_closure.specs.GroupList.{IsGroup};
 ghost use Rattle.space_groups.specs.Keys as keys;
 ghost use Rattle.space_groups.specs.Rows as shown;
 ghost use Rattle.space_groups.specs.Rows.{IsRowList};
+ghost use Rattle.parameter_forms.specs.Finding.{IsKeptForm};
 ghost use Rattle.parameter_forms.specs.Forms.{Form};
 ghost use Rattle.page_print.specs.declared.page.TheConstants.{PAGE_ROOM};
 ghost use Rattle.page_print.specs.Printing.{Prints, GathersText};
@@ -20,7 +21,7 @@ use triplet_text::{COMPONENT_ROOM, affine_map_has_one_text, print_component};
 use wyckoff_rows::parts::Rows;
 
 /// The most bytes that a parameter form has: three components and two commas.
-const SHOWN_FORM: usize = 3 * COMPONENT_ROOM + 2;
+pub const SHOWN_FORM: usize = 3 * COMPONENT_ROOM + 2;
 
 /// The most bytes that the line of a row has: a place and a number of points of at most twenty digits each, two blanks, a form
 /// and the end of the line.
@@ -66,7 +67,6 @@ fn push_line(group: &Group, rows: &Rows, k: usize, page: &mut Page)
     ensures { (form : keys.Key → Form) (row : shown.Row) → GivesForms (length group.now) form
         → slice_get rows.now k ≡ Some row → page.new ≡ page.old ++ param_line form k row }
 {
-    affine_map_has_one_text();
     prove!(k < rows.len());
     let row = rows.get(k);
     let mut buffer = Buffer::new();
@@ -74,14 +74,33 @@ fn push_line(group: &Group, rows: &Rows, k: usize, page: &mut Page)
     page.push(b" ");
     page.push(buffer.format(row.mult).as_bytes());
     page.push(b" ");
-    push_form(&param(group, &row.key), page);
+    push_row_form(group, rows, k, page);
     page.push(b"\n");
+}
+
+/// Adds the parameter form of the row at place k, counted from 0. It is one that is kept, so its numbers are small.
+pub fn push_row_form(group: &Group, rows: &Rows, k: usize, page: &mut Page)
+    requires list { IsRowList UNIT group.now rows.now }
+    requires within { k < length rows.now }
+    requires room { length page.old + SHOWN_FORM ≤ PAGE_ROOM }
+    ensures text { (form : keys.Key → Form) (row : shown.Row) → GivesForms (length group.now) form
+        → slice_get rows.now k ≡ Some row
+        → page.new ≡ page.old ++ form_text (form row.key) }
+    ensures kept { (form : Form) × IsKeptForm form × (page.new ≡ page.old ++ form_text form) }
+    ensures short { length page.new ≤ length page.old + SHOWN_FORM }
+{
+    affine_map_has_one_text();
+    // By this call it is known that the members are a group.
+    let _ = group.len();
+    let row = rows.get(k);
+    push_form(&param(group, &row.key), page);
 }
 
 /// Adds a parameter form, as any other affine map.
 fn push_form(form: &Param, page: &mut Page)
     requires { length page.old + SHOWN_FORM ≤ PAGE_ROOM }
     ensures text { page.new ≡ page.old ++ form_text form.now }
+    ensures kept { IsKeptForm form.now }
     ensures short { length page.new ≤ length page.old + SHOWN_FORM }
 {
     let over = form.over();

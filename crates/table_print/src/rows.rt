@@ -95,7 +95,17 @@ pub fn push_row(group: &Group, rows: &Rows, k: usize, page: &mut Page)
     page.push(b" ");
     page.push(buffer.format(row.mult).as_bytes());
     page.push(b" ");
-    page.push(key_text(group.len(), &row.key).bytes());
+    page.push(row_text(group, rows, k).bytes());
+}
+
+/// The key of the row at place k, counted from 0, as an affine map.
+pub fn row_text(group: &Group, rows: &Rows, k: usize) -> Text
+    requires list { IsRowList UNIT group.now rows.now }
+    requires within { k < length rows.now }
+    ensures { (row : shown.Row) → slice_get rows.now k ≡ Some row
+        → result ≡ affine_text (length group.now) (numbers_of_key row.key) }
+{
+    key_text(group.len(), &rows.get(k).key)
 }
 
 /// A key as an affine map, where its matrix stands over the number of members.

@@ -21,7 +21,7 @@ mod Printed
 mod AffineBytes
 mod AffineUnique
 mod AffineValues
-mod AffineSame
+pub mod AffineSame
 pub mod SaidLines
 pub mod LineSteps
 pub mod LineLaws

@@ -1,11 +1,15 @@
-//! The command that shows the points of a grid.
+//! The commands that show the points of a grid.
 
-ghost use Rattle.sg_cli.specs.Answering.{OverGrid};
-ghost use Rattle.sg_cli.specs.Steps.{Answers, Counted};
+ghost use Rattle.std.specs.Prelude.{◌≤◌, ◌+◌, length};
+ghost use Rattle.sg_cli.specs.declared.TheConstants.{MAX_INPUT as INPUT_LIMIT};
+ghost use Rattle.sg_cli.specs.Inputs.{DataLines};
+ghost use Rattle.sg_cli.specs.Answering.{OverGrid, OverValues};
+ghost use Rattle.sg_cli.specs.Steps.{IsDataText, Answers, Counted};
 
 use crate::fault::Fault;
 use grid_tags::{GridOrbits, GridSize};
 use group_closure::Group;
+use map_sym::{print_map, read_values, symmetrize};
 use sg_io::Sink;
 use std::alloc::Global;
 use table_print::print_orbits;
@@ -22,4 +26,26 @@ pub fn answer_grid<K: Sink>(
 {
     let mut orbits = GridOrbits::begin(alloc, group, size)?;
     Ok(print_orbits(group, &mut orbits, out)?)
+}
+
+/// Prints the values of the data lines, summed over the orbits of a grid, where the group keeps it. All memory is taken before
+/// the first byte is written.
+pub fn answer_map<K: Sink>(
+    alloc: Global,
+    group: &Group,
+    size: &GridSize,
+    tail: &[u8],
+    line: u32,
+    out: &mut K,
+) -> Result<(), Fault>
+    requires tail { length tail.now ≤ INPUT_LIMIT }
+    requires line { line ≤ INPUT_LIMIT + 2 }
+    ensures answers { (rest : DataLines) → IsDataText rest tail.now line
+        → Answers K.seen (OverValues group.now size.now rest) out.old out.new result }
+    ensures counted { Counted K.seen out.old out.new result }
+{
+    let values = read_values(alloc, tail, line, size)?;
+    let mut orbits = GridOrbits::begin(alloc, group, size)?;
+    let sums = symmetrize(alloc, group, size, &values)?;
+    Ok(print_map(group, &mut orbits, &sums, out)?)
 }

@@ -16,11 +16,11 @@ mod sites;
 
 use crate::fault::Fault;
 use crate::words::{Command, Input};
-use grids::answer_grid;
+use grids::{answer_grid, answer_map};
 use group_closure::Group;
-use indices::{answer_index, answer_refl};
+use indices::{answer_index, answer_merge, answer_refl};
 use operators::{answer_basis, answer_recell};
-use rows::{answer_fit, answer_sample, answer_table, answer_wyckoff};
+use rows::{answer_fit, answer_params, answer_report, answer_sample, answer_table, answer_wyckoff};
 use sg_io::Sink;
 use sites::{answer_atoms, answer_site};
 use std::alloc::Global;
@@ -89,9 +89,13 @@ pub fn answer_over<K: Sink>(
         Command::Basis(c) => answer_basis(alloc, group, &c, out),
         Command::Recell(c) => answer_recell(alloc, group, &c, out),
         Command::Wyckoff => answer_wyckoff(alloc, group, out),
+        Command::Params => answer_params(alloc, group, out),
+        Command::Report => answer_report(alloc, group, out),
         Command::Fit(point) => answer_fit(alloc, group, &point, out),
         Command::Table(size, pairs) => answer_table(alloc, group, &size, pairs, out),
         Command::Sample(seed) => answer_sample(alloc, group, seed, out),
         Command::Atoms => answer_atoms(alloc, group, tail, line, out),
+        Command::Merge(pairs) => answer_merge(alloc, group, pairs, tail, line, out),
+        Command::Map(size) => answer_map(alloc, group, &size, tail, line, out),
     }
 }

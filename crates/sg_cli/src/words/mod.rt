@@ -7,6 +7,7 @@ ghost use Rattle.sg_cli.specs.declared.words.Name as names;
 
 mod changes;
 mod numbers;
+mod pairs;
 mod points;
 
 use basis_change::cell::CellChange;
@@ -15,6 +16,7 @@ use changes::{read_basis, read_cell};
 use exact_ops::Point;
 use grid_tags::GridSize;
 use numbers::{read_box, read_grid, read_index, read_seed};
+use pairs::read_pairs;
 use phase_rules::{Index, Pairs};
 use points::read_point;
 use reflections::BoxSize;
@@ -40,6 +42,10 @@ pub enum Command {
     Recell(CellChange),
     /// The rows of the table of Wyckoff positions.
     Wyckoff,
+    /// The rows in free parameters.
+    Params,
+    /// The operators and the rows, as JSON.
+    Report,
     /// The row that a point fits.
     Fit(Point),
     /// The operators, their types, the rows, and the classes of a box of reflections.
@@ -48,6 +54,10 @@ pub enum Command {
     Sample(u32),
     /// Labelled sites, each expanded to the points of its orbit in the cell.
     Atoms,
+    /// Measured reflections, merged by classes with Friedel's law or without it.
+    Merge(Pairs),
+    /// Values at the points of a grid, summed over the orbits.
+    Map(GridSize),
 }
 
 /// What a command is answered over.
@@ -68,7 +78,7 @@ impl Command {
     {
         match self {
             Command::Sample(seed) => Input::Made(*seed),
-            Command::Atoms => Input::OperatorsAndData,
+            Command::Atoms | Command::Merge(_) | Command::Map(_) => Input::OperatorsAndData,
             _ => Input::Operators,
         }
     }
@@ -86,10 +96,14 @@ pub enum Name {
     Basis,
     Recell,
     Wyckoff,
+    Params,
+    Report,
     Fit,
     Table,
     Sample,
     Atoms,
+    Merge,
+    Map,
 }
 
 /// The command that the words are. None exactly where they are no command in range.
@@ -119,10 +133,14 @@ fn name_of(word: &str) -> Option<Name>
         "basis" => Some(Name::Basis),
         "recell" => Some(Name::Recell),
         "wyckoff" => Some(Name::Wyckoff),
+        "params" => Some(Name::Params),
+        "report" => Some(Name::Report),
         "fit" => Some(Name::Fit),
         "table" => Some(Name::Table),
         "sample" => Some(Name::Sample),
         "atoms" => Some(Name::Atoms),
+        "merge" => Some(Name::Merge),
+        "map" => Some(Name::Map),
         _ => None,
     }
 }
@@ -149,6 +167,8 @@ fn read_arguments(name: Name, arguments: &[String]) -> Option<Command>
         Name::Basis => Some(Command::Basis(read_basis(arguments)?)),
         Name::Recell => Some(Command::Recell(read_cell(arguments)?)),
         Name::Wyckoff => no_arguments(arguments, Command::Wyckoff),
+        Name::Params => no_arguments(arguments, Command::Params),
+        Name::Report => no_arguments(arguments, Command::Report),
         Name::Fit => Some(Command::Fit(read_point(arguments)?)),
         Name::Table => {
             let (size, pairs) = read_box(arguments)?;
@@ -156,6 +176,8 @@ fn read_arguments(name: Name, arguments: &[String]) -> Option<Command>
         }
         Name::Sample => Some(Command::Sample(read_seed(arguments)?)),
         Name::Atoms => no_arguments(arguments, Command::Atoms),
+        Name::Merge => Some(Command::Merge(read_pairs(arguments)?)),
+        Name::Map => Some(Command::Map(read_grid(arguments)?)),
     }
 }
 

@@ -29,3 +29,9 @@ returns-in-Sample-clause-answers g c = λ rest is. rw c.in-Sample.is c.answer_sa
 
 pub returns-in-Atoms-clause-answers : goal.returns-in-Atoms-clause-answers
 returns-in-Atoms-clause-answers g c = λ rest is. rw c.in-Atoms.is (c.answer_atoms.ensures.answers rest is)
+
+pub returns-in-Merge-clause-answers : goal.returns-in-Merge-clause-answers
+returns-in-Merge-clause-answers g c = λ rest is. rw c.in-Merge.is (c.answer_merge.ensures.answers rest is)
+
+pub returns-in-Map-clause-answers : goal.returns-in-Map-clause-answers
+returns-in-Map-clause-answers g c = λ rest is. rw c.in-Map.is (c.answer_map.ensures.answers rest is)

@@ -1,0 +1,3 @@
+pub mod PlainTexts
+mod Written
+pub mod ReportTexts
