@@ -74,8 +74,8 @@ lines_of() {
     local line
     printf -v line '%b' "${2%\\}"
     case $2 in
-        *\\) yes "$line" | head -n "$1" | tr -d '\n' ;;
-        *) yes "$line" | head -n "$1" ;;
+        *\\) yes -- "$line" | head -n "$1" | tr -d '\n' ;;
+        *) yes -- "$line" | head -n "$1" ;;
     esac
 }
 
