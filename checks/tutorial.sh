@@ -10,6 +10,7 @@
 set -uf
 cd "$(dirname "${BASH_SOURCE[0]}")/.." || exit 1
 exec </dev/null
+export LC_ALL=C
 top=$PWD
 sg=$(realpath "${1:-bin/sg}") || exit 1
 passed=0
