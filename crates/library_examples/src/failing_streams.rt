@@ -87,7 +87,7 @@ fn an_empty_input_is_read_once(rt: HostRuntime) -> Result<(), Fail> {
 }
 
 /// Words, an input, and what is printed.
-const TEXTS: [(&[&str], &[u8], &[u8]); 4] = [
+const TEXTS: [(&[&str], &[u8], &[u8]); 9] = [
     (&["ops"], INVERSION, b"x,y,z\n-x,-y,-z\n"),
     (
         &["types"],
@@ -111,6 +111,39 @@ const TEXTS: [(&[&str], &[u8], &[u8]); 4] = [
     ",
     ),
     (&["wyckoff"], INVERSION, ROWS),
+    (&["params"], INVERSION, ROWS),
+    (
+        &["report"],
+        b"",
+        b"{\"operators\":[\"x,y,z\"],\"rows\":[{\"mult\":1,\"param\":\"x,y,z\",\"text\":\"x,y,z\"}]}\n",
+    ),
+    (
+        &["atoms"],
+        b"-x,-y,-z\n%%\nO 0.1 0.2 0.3\nFe 1 0 0\nFe 0 0 0",
+        b"\
+        site 1 O 2\n\
+        at 1 1/10 1/5 3/10\n\
+        at 1 9/10 4/5 7/10\n\
+        site 2 Fe 1\n\
+        at 2 0 0 0\n\
+        same 3 Fe 2\n\
+    ",
+    ),
+    (
+        &["merge"],
+        b"-x,y+1/2,-z\n%%\n0 1 0 3\n0 -1 0 -3\n1 0 0 4",
+        b"\
+        1 0 0 1 4 present\n\
+        0 1 0 2 0 absent\n\
+        observed absences 1\n\
+        0 1 0\n\
+    ",
+    ),
+    (
+        &["map", "3", "1", "1"],
+        b"-x,-y,-z\n%%\n5\n6\n7",
+        b"0 0 0 1 5\n1 0 0 2 13\ntotal 18\n",
+    ),
 ];
 
 /// Each write takes a byte. What stands before the one that fails is printed, and all of the text where it would be one more.
@@ -153,7 +186,7 @@ fn rows_of_which_eight_bytes_were_taken(rt: HostRuntime) -> Result<(), Fail> {
 }
 
 /// Words, an input that is refused, the status and the fault text.
-const REFUSED: [(&[&str], &[u8], u8, &[u8]); 14] = [
+const REFUSED: [(&[&str], &[u8], u8, &[u8]); 17] = [
     (
         &["ops"],
         b"x,y+1/2,z+1/2\nx+1/2,y,z+1/2\n-x,-y,z\n-x,y,-z\nz,x,y\ny,x,-z\n-x,-y,-z\nx+1/4,y,z",
@@ -201,6 +234,24 @@ const REFUSED: [(&[&str], &[u8], u8, &[u8]); 14] = [
         b"x-y,x,z",
         8,
         b"sg: grid is not kept\n",
+    ),
+    (
+        &["atoms"],
+        b"x,y,z\n%%\nO 0 0 0\n0 0 0",
+        11,
+        b"sg: line 4: not a data line\n",
+    ),
+    (
+        &["merge"],
+        b"%%\n1 0 0 4\n%%",
+        11,
+        b"sg: line 3: not a data line\n",
+    ),
+    (
+        &["map", "3", "1", "1"],
+        b"-x,-y,-z\n%%\n5\n6",
+        12,
+        b"sg: wrong number of values\n",
     ),
     (
         &["help"],
