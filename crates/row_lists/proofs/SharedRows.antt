@@ -7,7 +7,7 @@ use Rattle.lattice_algebra.proofs.Points.{≈_sym, ≈_trans, IsPoint-image}
 use Rattle.lattice_algebra.proofs.Maps.{map_eq, map_eq-is}
 use Rattle.finite_groups.proofs.Members as lists
 use Rattle.finite_groups.proofs.Conjugates as conjugates
-use Rattle.finite_groups.proofs.Table.{same_factor}
+use Rattle.finite_groups.proofs.Cover.{same_factor}
 use Rattle.space_groups.specs.Space.{IsElement, ScaledPoint, moved, point_of}
 use Rattle.space_groups.specs.Averages.{Block, IsInImage}
 use Rattle.space_groups.specs.Regions.{shift_by}
@@ -28,8 +28,7 @@ use Rattle.space_groups.proofs.OrbitLists.{orbit_points, orbit_list, orbit_count
 use Rattle.space_groups.proofs.Points.{scaled_of, image_of}
 use Rattle.space_groups.proofs.Laws.{some_orbit}
 use Rattle.space_groups.proofs.Rows.{some_members, lies_moved}
-use Rattle.space_groups.proofs.PointKeys.{turned_site, point_key, special_key, fits_own_key}
-use Rattle.space_groups.proofs.TableOfKept.{point_key_once}
+use Rattle.space_groups.proofs.PointKeys.{turned_site, point_key, special_key, point_key_once, fits_own_key}
 use Rattle.row_lists.proofs.SomeKey.{some_key}
 
 -- products with one value: where the first factors are equal, so are the second, and the other way round
@@ -96,7 +95,7 @@ module _ (L : SpaceGroup) where
   average_has_key : (x : Point) (y : ScaledPoint) (p : Key) → IsPoint x → x ≈ point_of unit y → IsPointKey unit members x p → IsKey unit members (length members) (site_average y).average p
   average_has_key x y p h e k =
       let a = average_key y in
-      subst (λ q. IsKey unit members (length members) (site_average y).average q) (point_key_once unit members x a.0 p (key_of_average x y a.0 h e a.1) k) a.1
+      subst (λ q. IsKey unit members (length members) (site_average y).average q) (point_key_once L x a.0 p (key_of_average x y a.0 h e a.1) k) a.1
 
   -- ---- the row of a point
 
@@ -106,13 +105,6 @@ module _ (L : SpaceGroup) where
       let k = average_key y.0 in
       let o = some_orbit L x h in
       (record { mult = length o.0; key = k.0 }, record { key = key_of_average x y.0 k.0 h y.1 k.1; orbit = o.0; is_orbit = o.1; as_many = refl })
-
-  pub one_row : (x : Point) (a b : Row) → IsPoint x → IsRowOf unit members x a → IsRowOf unit members x b → a ≡ b
-  one_row x a b h r s =
-      let y = scaled_of unit some x h in
-      let m : a.mult ≡ b.mult = sym r.as_many ∙ orbit_count L x y.0 r.orbit h y.1 r.is_orbit ∙ sym (orbit_count L x y.0 s.orbit h y.1 s.is_orbit) ∙ s.as_many in
-      let k : a.key ≡ b.key = point_key_once unit members x a.key b.key r.key s.key in
-      λ i. record { mult = m i; key = k i }
 
   -- a point fits its row
   pub fits_row : (x : Point) (row : Row) → IsPoint x → IsRowOf unit members x row → Fits unit members row x
