@@ -29,6 +29,7 @@ use Rattle.space_groups.specs.Rows.{Row, Fits, IsTable, IsAt}
 use Rattle.space_groups.proofs.Means as means
 use Rattle.space_groups.proofs.OneOperator as smallest
 use Rattle.wyckoff_rows.specs.declared.ranges.Ranges.{Ranges}
+use Rattle.wyckoff_rows.proofs.Finishing.{table_of_rows}
 use Rattle.wyckoff_rows.proofs.Examples.{o, trivial, fixed, half, without_shift}
 
 -- ---- kept groups
@@ -241,7 +242,7 @@ row_of_average = record { average = alone.average; is_average = average; key = i
 
 table : IsTable UNIT one (general ∷ [])
 unfolding key_of modulo
-table = smallest.table_of_shifts UNIT some_parts
+table = table_of_rows one group_of_one (general ∷ []) (smallest.row_list_of_shifts UNIT some_parts)
 
 table_of_one : IsTableOf one (general ∷ [])
 table_of_one = record { table = table; averages = All-from_recursion (IsRowOfAverage one) (general ∷ []) (row_of_average, tt) }

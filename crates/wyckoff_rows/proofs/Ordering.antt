@@ -33,19 +33,6 @@ row_cmp_total = then_total (back_total (on_total (λ (r : Row). r.mult) nat_cmp_
 key_over_path : (p q : KeyOver) → p.key ≡ q.key → p.over ≡ q.over → p ≡ q
 key_over_path p q k o = λ i. record { key = k i; over = o i }
 
-pub apart_mapped : (members : List Operator) (kept : List Entry) → AreKept members kept → AllPairs (λ (j k : Kept). j.key ≢ k.key) (map kept_in kept)
-apart_mapped members kept h i j d l b e =
-    let n : j < length kept = simp length-map at b in
-    let m : i < length kept = omega (arith, l, n) in
-    let x = (some_at kept i m).0 in
-    let u : Entry = get_or kept i x in
-    let v : Entry = get_or kept j x in
-    let p = All-contains (IsEntry members) kept u h.each (Contains-get_or kept i x m) in
-    let q = All-contains (IsEntry members) kept v h.each (Contains-get_or kept j x n) in
-    let a = ap (λ (k : Kept). k.key) (get_or-map kept_in kept i x d m) in
-    let c = ap (λ (k : Kept). k.key) (get_or-map kept_in kept j x d n) in
-    h.apart i j x l n (key_over_path u.key v.key (sym a ∙ e ∙ c) (p.over ∙ sym q.over))
-
 -- ---- what the comparison says
 
 equal_lists : (xs ys : List ℤ) → slice_cmp int_cmp xs ys ≡ Equal → xs ≡ ys
