@@ -1,10 +1,10 @@
 -- Worked examples: kept groups, their visits and tables, in P1; nothing cites these.
-use Rattle.std.proofs.Common.{◌≡◌, ◌<◌, ◌≤◌, ◌*◌, ◌⊎◌, ℕ, zero, suc, ℤ, pos, ◌+ℤ◌, ◌*ℤ◌, ◌≤ℤ◌, ◌<ℤ◌, true, false, Some, List, [], ◌∷◌, length, slice_get, inr, ⊎_elim, Contains, ap, sym, subst, refl, arith}
+use Rattle.std.proofs.Common.{◌≡◌, ◌<◌, ◌*◌, ℕ, zero, suc, ℤ, pos, ◌+ℤ◌, ◌*ℤ◌, ◌≤ℤ◌, ◌<ℤ◌, true, false, Some, List, [], ◌∷◌, length, slice_get, inr, ⊎_elim, Contains, ap, sym, subst, refl, arith}
 use Rattle.std.proofs.lemmas.Bool.{false≢true}
 use Rattle.std.proofs.lemmas.Int.{ints}
 use Rattle.std.proofs.lemmas.List.Elements.{All-from_recursion}
 use Rattle.finite_groups.proofs.Members as lists
-use Rattle.lattice_algebra.specs.Matrix.{Column, coordinates, identity, origin, times, ◌·◌, ◌·ᶜ◌, ◌+ᶜ◌}
+use Rattle.lattice_algebra.specs.Matrix.{Column, coordinates, identity, origin, times, ◌·ᶜ◌, ◌+ᶜ◌}
 use Rattle.lattice_algebra.specs.Operator.{identity_operator, modulo}
 use Rattle.lattice_algebra.specs.Map.{Map, identity_map, operator_of}
 use Rattle.lattice_algebra.proofs.Examples.{column, point}

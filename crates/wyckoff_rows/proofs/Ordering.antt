@@ -1,5 +1,5 @@
 -- The rows in order: sorted, with no two alike, since no two keys are.
-use Rattle.std.proofs.Common.{◌≡◌, ◌≢◌, ◌<◌, ◌+◌, inl, inr, ℤ, Bool, false, Ordering, Less, Equal, Greater, List, length, get_or, map, AllPairs, IsPermutation, IsSorted, ap, ap₂, sym, ◌∙◌, subst₂, arith, refl}
+use Rattle.std.proofs.Common.{◌≡◌, ◌<◌, ◌+◌, inl, inr, ℤ, Bool, false, Ordering, Less, Equal, Greater, List, length, get_or, map, AllPairs, IsPermutation, IsSorted, ap, ap₂, sym, ◌∙◌, subst₂, arith, refl}
 use Rattle.std.proofs.lemmas.List.{length-map, get_or-map}
 use Rattle.std.proofs.lemmas.List.Elements.{All-contains, Contains-get_or}
 use Rattle.std.specs.Cmp.{IsTotalOrder}
@@ -18,10 +18,9 @@ use Rattle.space_groups.proofs.Keys.{same_entries, same_coordinates}
 use Rattle.space_groups.proofs.Ordered.{less_is_below}
 use Rattle.space_groups.specs.Rows as shown
 use Rattle.space_groups.specs.Rows.{IsRowBefore}
-use Rattle.space_groups.specs.Search.{Kept}
 use Rattle.affine_sets.specs.Averages.{KeyOver}
 use Rattle.wyckoff_rows.specs.Shown.{row_in, row_cmp}
-use Rattle.wyckoff_rows.specs.Steps.{kept_in, row_shown, IsEntry, AreKept}
+use Rattle.wyckoff_rows.specs.Steps.{row_shown, IsEntry, AreKept}
 use Rattle.wyckoff_rows.specs.declared.entry.Entry.{Entry}
 use Rattle.wyckoff_rows.specs.declared.parts.Row.{Row}
 use Rattle.wyckoff_rows.proofs.Lists.{some_at}
