@@ -1,5 +1,5 @@
 -- The row of a rational point: each point has one, and points have the same one exactly where their site-symmetry groups are conjugate.
-use Rattle.std.proofs.Common.{◌≡◌, ◌<◌, ◌≤◌, ◌*◌, ◌↔◌, ℕ, zero, suc, mul_comm, length, map, Contains, ap, sym, ◌∙◌, refl, subst, arith}
+use Rattle.std.proofs.Common.{◌≡◌, ◌<◌, ◌≤◌, ◌*◌, ◌↔◌, ℕ, zero, suc, mul_comm, length, Contains, ap, sym, ◌∙◌, refl, subst, arith}
 use Rattle.std.proofs.lemmas.List.{length-map}
 use Rattle.lattice_algebra.specs.Map.{Map, ◌∘◌, undo}
 use Rattle.lattice_algebra.specs.Point.{Point, IsPoint, ◌≈◌, image}
@@ -7,7 +7,7 @@ use Rattle.lattice_algebra.proofs.Points.{≈_sym, ≈_trans, IsPoint-image}
 use Rattle.lattice_algebra.proofs.Maps.{map_eq, map_eq-is}
 use Rattle.finite_groups.proofs.Members as lists
 use Rattle.finite_groups.proofs.Conjugates as conjugates
-use Rattle.finite_groups.proofs.Table.{same_factor}
+use Rattle.finite_groups.proofs.Cover as cover
 use Rattle.space_groups.specs.Space.{IsElement, ScaledPoint, moved, point_of}
 use Rattle.space_groups.specs.Averages.{Block, IsInImage}
 use Rattle.space_groups.specs.Regions.{shift_by}
@@ -18,18 +18,16 @@ use Rattle.space_groups.proofs.Elements.{SpaceGroup, space, on_points}
 use Rattle.space_groups.proofs.Means as means
 use Rattle.space_groups.proofs.Means.{Averaged}
 use Rattle.space_groups.proofs.Carried.{carried-number, carried_idempotent, image_carried_back}
-use Rattle.space_groups.proofs.CarriedLists.{turned, turned_distinct}
 use Rattle.space_groups.proofs.Regions.{shift_in}
 use Rattle.space_groups.proofs.Divided.{mean_exists}
-use Rattle.space_groups.proofs.Sites.{site, site_is, site_distinct}
+use Rattle.space_groups.proofs.Sites.{site, sites, site_is, site_distinct}
 use Rattle.space_groups.proofs.SiteLists.{one_length, site_closed, site_list}
 use Rattle.space_groups.proofs.Orbits.{orbit, site_times_orbit}
 use Rattle.space_groups.proofs.OrbitLists.{orbit_points, orbit_list, orbit_count}
 use Rattle.space_groups.proofs.Points.{scaled_of, image_of}
 use Rattle.space_groups.proofs.Laws.{some_orbit}
 use Rattle.space_groups.proofs.Rows.{some_members, lies_moved}
-use Rattle.space_groups.proofs.PointKeys.{turned_site, point_key, special_key, fits_own_key}
-use Rattle.space_groups.proofs.TableOfKept.{point_key_once}
+use Rattle.space_groups.proofs.PointKeys.{point_key, special_key, point_key_once, fits_own_key}
 use Rattle.row_lists.proofs.SomeKey.{some_key}
 
 -- products with one value: where the first factors are equal, so are the second, and the other way round
@@ -38,7 +36,7 @@ some_factor zero b n e p = omega arith
 some_factor (suc a) b n e p = omega arith
 
 other_factor : (a b c d n : ℕ) → 0 < n → a * c ≡ n → b * d ≡ n → a ≡ b → c ≡ d
-other_factor a b c d n some p q e = same_factor a c d (some_factor a c n p some) (p ∙ sym q ∙ ap (λ k. k * d) (sym e))
+other_factor a b c d n some p q e = cover.same_factor a c d (some_factor a c n p some) (p ∙ sym q ∙ ap (λ k. k * d) (sym e))
 
 first_factor : (a b c d n : ℕ) → 0 < n → a * c ≡ n → b * d ≡ n → c ≡ d → a ≡ b
 first_factor a b c d n some p q e = other_factor c d a b n some (mul_comm c a ∙ p) (mul_comm d b ∙ q) e
@@ -66,20 +64,10 @@ module _ (L : SpaceGroup) where
         λ t m. ((λ s. (site_is L z t).0 ((r.2 t).0 ((site_is L (moved r.0 y) t).1 s))), (λ s. (site_is L (moved r.0 y) t).0 ((r.2 t).1 ((site_is L z t).1 s)))),
       )
 
-  -- the group of g y is g S g^-1, S that of y
-  pub site_turned : (g : Map) (y : ScaledPoint) → IsElement unit members g → (e : Map) → Contains (map (turned g) (site L y)) e ↔ Contains (site L (moved g y)) e
-  site_turned g y m = turned_site L g y (site L y) m (λ e. ((λ c. c), (λ c. c)))
-
-  -- so it is as large
-  site_length : (g : Map) (y : ScaledPoint) → IsElement unit members g → length (site L (moved g y)) ≡ length (site L y)
-  site_length g y m =
-      let d = turned_distinct L g (site L y) m (λ e c. ((site_is L y e).0 c).0) (site_distinct L y) in
-      sym (one_length (map (turned g) (site L y)) (site L (moved g y)) d (site_distinct L (moved g y)) (site_turned g y m)) ∙ length-map (site L y) (turned g)
-
   -- points with conjugate groups have orbits of one size
   orbit_length : (y z : ScaledPoint) → HasGroupOf y z → length (orbit L y) ≡ length (orbit L z)
   orbit_length y z r =
-      let s : length (site L y) ≡ length (site L z) = sym (site_length r.0 y r.1) ∙ one_length (site L (moved r.0 y)) (site L z) (site_distinct L (moved r.0 y)) (site_distinct L z) r.2 in
+      let s : length (site L y) ≡ length (site L z) = sym (cover.site_length (sites L) r.0 y r.1) ∙ one_length (site L (moved r.0 y)) (site L z) (site_distinct L (moved r.0 y)) (site_distinct L z) r.2 in
       other_factor (length (site L y)) (length (site L z)) (length (orbit L y)) (length (orbit L z)) (length members) (some_members L) (site_times_orbit L y) (site_times_orbit L z) s
 
   -- ---- the key of a point is that of the average over its group
@@ -96,7 +84,7 @@ module _ (L : SpaceGroup) where
   average_has_key : (x : Point) (y : ScaledPoint) (p : Key) → IsPoint x → x ≈ point_of unit y → IsPointKey unit members x p → IsKey unit members (length members) (site_average y).average p
   average_has_key x y p h e k =
       let a = average_key y in
-      subst (λ q. IsKey unit members (length members) (site_average y).average q) (point_key_once unit members x a.0 p (key_of_average x y a.0 h e a.1) k) a.1
+      subst (λ q. IsKey unit members (length members) (site_average y).average q) (point_key_once L x a.0 p (key_of_average x y a.0 h e a.1) k) a.1
 
   -- ---- the row of a point
 
@@ -106,13 +94,6 @@ module _ (L : SpaceGroup) where
       let k = average_key y.0 in
       let o = some_orbit L x h in
       (record { mult = length o.0; key = k.0 }, record { key = key_of_average x y.0 k.0 h y.1 k.1; orbit = o.0; is_orbit = o.1; as_many = refl })
-
-  pub one_row : (x : Point) (a b : Row) → IsPoint x → IsRowOf unit members x a → IsRowOf unit members x b → a ≡ b
-  one_row x a b h r s =
-      let y = scaled_of unit some x h in
-      let m : a.mult ≡ b.mult = sym r.as_many ∙ orbit_count L x y.0 r.orbit h y.1 r.is_orbit ∙ sym (orbit_count L x y.0 s.orbit h y.1 s.is_orbit) ∙ s.as_many in
-      let k : a.key ≡ b.key = point_key_once unit members x a.key b.key r.key s.key in
-      λ i. record { mult = m i; key = k i }
 
   -- a point fits its row
   pub fits_row : (x : Point) (row : Row) → IsPoint x → IsRowOf unit members x row → Fits unit members row x
@@ -167,5 +148,5 @@ module _ (L : SpaceGroup) where
           let into : (s : Map) → Contains (site L z) s → Contains (site L (moved g y)) s = λ s c. (site_is L (moved g y) s).1 (((site_is L z s).0 c).0, means.image_fixed (site_average z) (moved g y) inside.2 s c) in
           let same : length (orbit L y) ≡ length (orbit L z) = sym (orbit_count L x y fits.orbit h e fits.is_orbit) ∙ fits.as_many ∙ sym is_row.as_many ∙ orbit_count L x' z is_row.orbit h' e' is_row.is_orbit in
           let sizes : length (site L y) ≡ length (site L z) = first_factor (length (site L y)) (length (site L z)) (length (orbit L y)) (length (orbit L z)) (length members) (some_members L) (site_times_orbit L y) (site_times_orbit L z) same in
-          let short : length (site L (moved g y)) ≤ length (site L z) = omega (arith, site_length g y inside.1, sizes) in
+          let short : length (site L (moved g y)) ≤ length (site L z) = omega (arith, cover.site_length (sites L) g y inside.1, sizes) in
           (g, inside.1, λ s. ((λ c. lists.onto map_eq map_eq-is (site L z) (site L (moved g y)) (site_distinct L z) into short s c), (λ c. into s c)))

@@ -7,7 +7,8 @@ use Rattle.space_groups.specs.Rows.{Row, Fits, IsRowBefore, IsAt, IsTable, IsRow
 use Rattle.space_groups.proofs.Elements.{SpaceGroup}
 use Rattle.space_groups.proofs.Points.{scaled_of, conjugate-scaled}
 use Rattle.space_groups.proofs.Ordered.{row_not_itself}
-use Rattle.row_lists.proofs.SharedRows.{group_from_conjugate, conjugate_from_group, some_row, one_row, fits_row, row_along, group_from_fits}
+use Rattle.space_groups.proofs.PointKeys.{one_row}
+use Rattle.row_lists.proofs.SharedRows.{group_from_conjugate, conjugate_from_group, some_row, fits_row, row_along, group_from_fits}
 
 module _ (L : SpaceGroup) where
   open L use {unit, some, members, closed}

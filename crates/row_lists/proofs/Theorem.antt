@@ -14,7 +14,8 @@ use Rattle.space_groups.proofs.Ordered.{row_on}
 use Rattle.space_groups.proofs.Rows.{AreNarrow}
 use Rattle.space_groups.proofs.Theorem.{space_group}
 use Rattle.row_lists.proofs.SomeKey.{which_key}
-use Rattle.row_lists.proofs.SharedRows.{some_row, one_row, row_along}
+use Rattle.space_groups.proofs.PointKeys.{one_row}
+use Rattle.row_lists.proofs.SharedRows.{some_row, row_along}
 use Rattle.row_lists.proofs.TableOfRows.{table_of_rows}
 use Rattle.row_lists.proofs.GenericPoints.{some_points}
 

@@ -7,7 +7,7 @@ use Rattle.lattice_algebra.specs.Matrix.{Matrix, Column, scaled, identity, origi
 use Rattle.lattice_algebra.specs.Operator.{modulo, identity_operator}
 use Rattle.lattice_algebra.specs.Map.{Map, ◌∘◌, identity_map, undo, operator_of}
 use Rattle.lattice_algebra.proofs.Ring.{con}
-use Rattle.lattice_algebra.proofs.MatrixRing.{SymMatrix, matrix_at, column_at, ◌·ˢ◌, ◌·ˢᶜ◌, ◌+ˢ◌, ◌+ˢᶜ◌, sym_times, sym_neg, sym_identity, sym_nothing, sym_origin, column_ring, matrix_ring}
+use Rattle.lattice_algebra.proofs.MatrixRing.{SymMatrix, matrix_at, column_at, ◌·ˢ◌, ◌·ˢᶜ◌, ◌+ˢᶜ◌, sym_times, sym_neg, sym_identity, sym_nothing, sym_origin, column_ring, matrix_ring}
 use Rattle.lattice_algebra.proofs.Remainders.{modulo_same, rem_of_times}
 use Rattle.lattice_algebra.proofs.Maps.{map_path, shift_of, identity-∘, ∘-identity}
 use Rattle.lattice_algebra.proofs.Examples.{column, minus, inversion, inverting, both, in_both, closed_list, some_parts}

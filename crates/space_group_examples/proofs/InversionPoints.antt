@@ -1,12 +1,12 @@
 -- Points under -x,-y,-z: which rows of P-1 they fit, and which of them are conjugate.
-use Rattle.std.proofs.Common.{◌≡◌, ◌∷◌, ◌⊎◌, ⊎_elim, ℤ, pos, negsuc, ◌*ℤ◌, Contains, ap, sym, ◌∙◌, refl, subst, arith}
+use Rattle.std.proofs.Common.{◌≡◌, ◌∷◌, ⊎_elim, ℤ, pos, negsuc, ◌*ℤ◌, Contains, ap, sym, ◌∙◌, refl, subst, arith}
 use Rattle.std.proofs.lemmas.Int.{ints}
-use Rattle.lattice_algebra.specs.Matrix.{Column, origin, ◌·◌, ◌·ᶜ◌, ◌+ᶜ◌, times, coordinates}
+use Rattle.lattice_algebra.specs.Matrix.{Column, origin, ◌·ᶜ◌, ◌+ᶜ◌, times, coordinates}
 use Rattle.lattice_algebra.specs.Operator.{Operator, identity_operator}
 use Rattle.lattice_algebra.specs.Map.{Map, ◌∘◌, identity_map, operator_of}
 use Rattle.lattice_algebra.specs.Point.{Point, IsPoint, ◌≈◌, image}
 use Rattle.lattice_algebra.proofs.Ring.{var, con, ◌⊗◌}
-use Rattle.lattice_algebra.proofs.MatrixRing.{column_at, ◌·ˢ◌, ◌·ˢᶜ◌, ◌+ˢ◌, ◌+ˢᶜ◌, sym_times, sym_identity, sym_origin, column_ring}
+use Rattle.lattice_algebra.proofs.MatrixRing.{column_at, ◌·ˢᶜ◌, ◌+ˢᶜ◌, sym_times, sym_identity, sym_origin, column_ring}
 use Rattle.lattice_algebra.proofs.Maps.{identity-∘, ∘-identity}
 use Rattle.lattice_algebra.proofs.Examples.{column, inverting, both}
 use Rattle.space_groups.specs.Space.{IsInSite, AreConjugate, HaveSameElement}

@@ -17,14 +17,15 @@ use Rattle.lattice_algebra.proofs.Examples.{column, minus, inversion, inverting,
 use Rattle.finite_groups.proofs.Members as lists
 use Rattle.space_groups.specs.Space.{IsMembers, ScaledPoint, moved}
 use Rattle.space_groups.specs.Averages.{block_of, block_scaled}
-use Rattle.space_groups.specs.Keys.{Key, key_of, IsBelow, IsKey}
+use Rattle.space_groups.specs.Keys.{key_of, IsBelow, IsKey}
 use Rattle.space_groups.specs.Intervals.{differences}
 use Rattle.space_groups.proofs.Grown.{full_length, grown_along}
 use Rattle.space_groups.specs.Rows.{Row, IsRowBefore, IsTable, IsRowList}
 use Rattle.space_groups.specs.Search.{FixAll, Kept, IsKept, HasKeptKey, IsDone, IsSearch, row_of}
 use Rattle.space_groups.proofs.ScaledPoints.{moved-identity}
-use Rattle.space_groups.proofs.Ordered.{row_not_itself, row_on, one_row_list}
-use Rattle.space_groups.proofs.Theorem.{table_of_search, row_list_of_search}
+use Rattle.space_groups.proofs.Ordered.{row_on, one_row_list}
+use Rattle.space_groups.proofs.Theorem.{row_list_of_search}
+use Rattle.row_lists.proofs.Theorem.{table_of_row_list}
 use Rattle.space_group_examples.proofs.Inversion.{o, L, inverted, pair, middle, no_shift, in_pair, other_in, pair_sub, pair_mean, key, pair_key, pair_full, alone, in_alone, whole_space, alone_sub, alone_mean, alone_key, alone_full}
 
 -- ---- what the search keeps
@@ -224,19 +225,10 @@ nine_in_order : AllPairs IsRowBefore nine
 unfolding Chain
 nine_in_order = in_order IsRowBefore row_on nine (inl (omega arith), specials_chain)
 
--- no two of the sets have one key
-one_point : Key → Row
-one_point k = record { mult = 1; key = k }
-
-keys_in_order : AllPairs (λ (j k : Kept). IsRowBefore (one_point j.key) (one_point k.key)) kept
-unfolding Chain one_point key_of block_scaled block_of scaled modulo times
-keys_in_order = in_order (λ (j k : Kept). IsRowBefore (one_point j.key) (one_point k.key)) (λ a b c. row_on (one_point a.key) (one_point b.key) (one_point c.key)) kept (inr (refl, inl (inl (omega (arith, ints)))), specials_chain)
-
 the_search : IsSearch 24 both kept (map row_of kept)
 the_search = record {
   all = all_kept;
   trivial = (trivial, lists.Contains-here trivial (map at_half corners), refl);
-  apart = λ i j d l m e. row_not_itself (one_point (get_or kept i d).key) (subst (λ k. IsRowBefore (one_point (get_or kept i d).key) (one_point k)) (sym e) (keys_in_order i j d l m));
   done = all_done;
   rows_are = λ row. (lists.Contains-from_map row_of row kept, λ r. subst (Contains (map row_of kept)) r.2 (lists.Contains-map row_of r.0 kept r.1));
   ordered = subst (AllPairs IsRowBefore) (sym rows_are_nine) nine_in_order;
@@ -263,13 +255,13 @@ members = record {
   narrow = narrow;
 }
 
--- the nine rows are the Wyckoff table
-pub nine_are_table : IsTable 24 both nine
-nine_are_table = subst (IsTable 24 both) rows_are_nine (table_of_search 24 some_parts both members kept (map row_of kept) the_search)
-
--- and they are the one row list
-nine_are_row_list : IsRowList 24 both nine
+-- the nine rows are the one row list
+pub nine_are_row_list : IsRowList 24 both nine
 nine_are_row_list = subst (IsRowList 24 both) rows_are_nine (row_list_of_search 24 some_parts both members kept (map row_of kept) the_search)
+
+-- so they are the Wyckoff table
+pub nine_are_table : IsTable 24 both nine
+nine_are_table = table_of_row_list 24 some_parts both members nine nine_are_row_list
 
 -- eight rows are none: the general positions are missing
 not_eight : IsRowList 24 both specials → ⊥

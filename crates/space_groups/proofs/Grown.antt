@@ -1,5 +1,5 @@
 -- Which elements a search need not try: what they generate with a kept set has the key of what another element generates with it.
-use Rattle.std.proofs.Common.{All, AllPairs, ◌≢◌, ◌∷◌, ◌≡◌, ◌<◌, ◌↔◌, List, length, pos, ◌<ℤ◌, Contains, sym, subst}
+use Rattle.std.proofs.Common.{All, AllPairs, ◌≢◌, ◌∷◌, ◌≡◌, ◌↔◌, List, length, pos, ◌<ℤ◌, Contains, sym, subst}
 use Rattle.std.proofs.lemmas.List.Elements.{All-cons}
 use Rattle.std.proofs.lemmas.Map.Made.{IsDistinct-from_AllPairs}
 use Rattle.lattice_algebra.specs.Matrix.{no_matrix}

@@ -22,11 +22,10 @@ pub mod SiteLists
 pub mod OrbitLists
 pub mod Divided
 pub mod Laws
--- the theorem: the rows of a finished search are the table
+-- the theorem: the rows of a finished search are the row list
 pub mod Growing
 pub mod Rows
 pub mod PointKeys
-pub mod TableOfKept
 pub mod Ordered
 pub mod FinishedSearch
 pub mod Theorem

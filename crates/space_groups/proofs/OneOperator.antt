@@ -14,7 +14,7 @@ use Rattle.finite_groups.proofs.Members as lists
 use Rattle.space_groups.specs.Space.{IsMembers, IsElement, ScaledPoint, moved}
 use Rattle.space_groups.specs.Averages.{Block, block_of, block_plus, block_scaled, block_times, IsMean, IsInImage}
 use Rattle.space_groups.specs.Keys.{carried, Key, key_of, ComesBefore, IsKey}
-use Rattle.space_groups.specs.Rows.{IsTable}
+use Rattle.space_groups.specs.Rows.{IsRowList}
 use Rattle.space_groups.specs.Search.{IsSub, IsFull, Kept, IsKept, IsDone, IsSearch, row_of}
 use Rattle.space_groups.proofs.ScaledPoints.{moved-identity}
 use Rattle.space_groups.proofs.Blocks.{times_identity, block_of-∘}
@@ -22,7 +22,7 @@ use Rattle.space_groups.proofs.Elements.{SpaceGroup, space}
 use Rattle.space_groups.proofs.Divided.{one_rotation}
 use Rattle.space_groups.proofs.Ordered.{not_before_itself}
 use Rattle.space_groups.proofs.Means as means
-use Rattle.space_groups.proofs.Theorem.{table_of_search}
+use Rattle.space_groups.proofs.Theorem.{row_list_of_search}
 
 abbrev pub only : List Operator
 only = identity_operator ∷ []
@@ -108,7 +108,7 @@ module _ (unit : ℕ) (some : 0 < unit) where
     first = λ g m l. not_before_itself the_key (subst (λ b. ComesBefore (key_of unit 1 b) the_key) (stays_whole g m) l);
   }
 
-  only_members : IsMembers unit only
+  pub only_members : IsMembers unit only
   only_members = record {
     operators = only_closed.valid;
     once = λ i j d l m. absurd (omega arith);
@@ -170,7 +170,6 @@ module _ (unit : ℕ) (some : 0 < unit) where
   the_search = record {
     all = all_one (IsKept unit only) the_set set_kept;
     trivial = (the_set, lists.Contains-here the_set [], refl);
-    apart = λ i j d l m. absurd (omega arith);
     done = all_one (IsDone unit only (the_set ∷ [])) the_set set_done;
     rows_are = λ row. (
       (λ c. (the_set, lists.Contains-here the_set [], ⊎_elim (λ e. e) (λ d. lists.not_in_nil row d) (lists.Contains-cases row (row_of the_set) [] c))),
@@ -179,6 +178,6 @@ module _ (unit : ℕ) (some : 0 < unit) where
     ordered = λ i j d l m. absurd (omega arith);
   }
 
-  -- the table of the smallest space group has one row
-  pub table_of_shifts : IsTable unit only (row_of the_set ∷ [])
-  table_of_shifts = table_of_search unit some only only_members (the_set ∷ []) (row_of the_set ∷ []) the_search
+  -- the row list of the smallest space group is one row
+  pub row_list_of_shifts : IsRowList unit only (row_of the_set ∷ [])
+  row_list_of_shifts = row_list_of_search unit some only only_members (the_set ∷ []) (row_of the_set ∷ []) the_search

@@ -2,7 +2,7 @@
 use Rattle.std.proofs.Common.{◌≡◌, ◌≢◌, ◌∷◌, [], ℕ, zero, suc, ◌<◌, ℤ, pos, negsuc, ◌+ℤ◌, ◌-ℤ◌, ◌*ℤ◌, ◌≤ℤ◌, ◌<ℤ◌, ap, sym, subst, arith, ⊎_elim}
 use Rattle.std.specs.Int.{int_min, int_max, int_signum}
 use Rattle.std.proofs.lemmas.Int.{ints, int_min_is, int_max_is}
-use Rattle.lattice_algebra.specs.Matrix.{Matrix, Column, ◌·◌, ◌·ᶜ◌, ◌+ᶜ◌, times}
+use Rattle.lattice_algebra.specs.Matrix.{Matrix, Column, ◌·ᶜ◌, ◌+ᶜ◌, times}
 use Rattle.lattice_algebra.specs.Operator.{Operator, IsPart}
 use Rattle.lattice_algebra.proofs.Ring.{known, var, con, neg, ◌⊕◌, ◌⊖◌, ◌⊗◌, ring, ring_from}
 use Rattle.lattice_algebra.proofs.Maps.{shifted}

@@ -1,5 +1,4 @@
--- The key of a row is the key of each point that fits it, so the rows are the list of all pairs of a number of images and a key.
--- For the search to come: `fits_own_key`, by which it finds the row of a point.
+-- The key of a point is that of the average over its site-symmetry group, and with the number of its images it is the row of the point.
 use Rattle.std.proofs.Common.{◌≡◌, ℕ, ◌<◌, ◌↔◌, List, length, map, pos, Contains, ap, sym, ◌∙◌, refl, subst, arith}
 use Rattle.std.specs.List.{IsDistinct}
 use Rattle.std.proofs.lemmas.List.{length-map}
@@ -17,7 +16,7 @@ use Rattle.finite_groups.proofs.Conjugates as conjugates
 use Rattle.space_groups.specs.Space.{IsElement, ScaledPoint, moved, point_of}
 use Rattle.space_groups.specs.Averages.{IsInImage, Block, block_of, block_scaled, sum_of, IsMean}
 use Rattle.space_groups.specs.Keys.{carried, Key, key_of, IsKey, ComesBefore}
-use Rattle.space_groups.specs.Rows.{row_point, Fits, IsSpecial, IsPointKey}
+use Rattle.space_groups.specs.Rows.{row_point, Row, Fits, IsSpecial, IsPointKey, IsRowOf}
 use Rattle.space_groups.specs.Lists.{IsOrbitList}
 use Rattle.space_groups.proofs.ScaledPoints.{moved-∘, moved-identity}
 use Rattle.space_groups.proofs.Blocks.{block_sums, cancel_block}
@@ -26,10 +25,12 @@ use Rattle.space_groups.proofs.Means as means
 use Rattle.space_groups.proofs.Means.{Averaged, sum_is}
 use Rattle.space_groups.proofs.CarriedLists.{turned, carried_mean, turned_distinct}
 use Rattle.space_groups.proofs.Divided.{mean_exists}
-use Rattle.space_groups.proofs.Sites.{site, site_is, site_distinct, full_of}
+use Rattle.space_groups.proofs.Sites.{site, site_is, site_distinct}
 use Rattle.space_groups.proofs.SiteLists.{one_length, site_closed, site_list}
+use Rattle.space_groups.proofs.OrbitLists.{orbit_count}
+use Rattle.space_groups.proofs.Keys.{one_of}
 use Rattle.space_groups.proofs.Points.{IsPoint-scaled, image_of, scaled_of, site-scaled}
-use Rattle.space_groups.proofs.Rows.{some_members, image_lies, AreKept, FitsScaled, has_group}
+use Rattle.space_groups.proofs.Rows.{some_members, image_lies}
 
 -- lists that have the same maps, each once, have the same average
 pub mean_once : (n : ℕ) (xs ys : List Map) (a b : Block) → IsDistinct map_eq xs → IsDistinct map_eq ys → ((e : Map) → Contains xs e ↔ Contains ys e) → 0 < length xs → IsMean n xs a → IsMean n ys b → a ≡ b
@@ -100,13 +101,19 @@ module _ (L : SpaceGroup) where
       point_key x y.0 p y.1 identity_map (space L).one_in (site L z) (site_closed L z) (λ e. ((λ c. c), (λ c. c))) a
       (subst (λ v. IsMean (length members) (site L v) a) (sym (moved-identity y.0)) (special_is x y.0 a p y.1 s)) q k
 
-  module _ {K : Type 0} (kept : AreKept L K) where
-    -- the key of a row is the key of each point that fits it
-    pub key_of_point : (k : K) (x : Point) (y : ScaledPoint) → IsPoint x → x ≈ point_of unit y → FitsScaled kept k y → IsPointKey unit members x (kept.key k)
-    key_of_point k x y p e f =
-        let g = has_group kept k y f in
-        let o = full_of L (kept.set k) in
-        point_key x y p e g.0 g.1 _ o.closed g.2 o.average o.is_mean (kept.key k) (kept.is_key k)
+  -- a point has one key
+  pub point_key_once : (x : Point) (p q : Key) → IsPointKey unit members x p → IsPointKey unit members x q → p ≡ q
+  point_key_once x p q f g = one_of p q
+      (λ l. g.first f.by f.special f.element f.is_special (subst (λ v. ComesBefore v q) (sym f.gives) l))
+      (λ l. f.first g.by g.special g.element g.is_special (subst (λ v. ComesBefore v p) (sym g.gives) l))
+
+  -- and one row
+  pub one_row : (x : Point) (a b : Row) → IsPoint x → IsRowOf unit members x a → IsRowOf unit members x b → a ≡ b
+  one_row x a b h r s =
+      let y = scaled_of unit some x h in
+      let m : a.mult ≡ b.mult = sym r.as_many ∙ orbit_count L x y.0 r.orbit h y.1 r.is_orbit ∙ sym (orbit_count L x y.0 s.orbit h y.1 s.is_orbit) ∙ s.as_many in
+      let k : a.key ≡ b.key = point_key_once x a.key b.key r.key s.key in
+      λ i. record { mult = m i; key = k i }
 
   -- a point fits the row of its own key and number of images: so the row of a point is found by its key
   pub fits_own_key : (x : Point) (p : Key) (list : List Point) → IsPoint x → IsPointKey unit members x p → IsOrbitList unit members x list → Fits unit members (record { mult = length list; key = p }) x

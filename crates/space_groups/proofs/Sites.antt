@@ -17,7 +17,7 @@ use Rattle.lattice_algebra.proofs.Operators.{operators}
 use Rattle.lattice_algebra.proofs.Numbers.{above}
 use Rattle.finite_groups.specs.Words.{IsClosedList}
 use Rattle.finite_groups.proofs.Members as lists
-use Rattle.finite_groups.proofs.Table as table
+use Rattle.finite_groups.proofs.Cover as cover
 use Rattle.space_groups.specs.Space.{IsElement, ScaledPoint, moved}
 use Rattle.space_groups.specs.Averages.{Block, block_of, block_times, block_scaled, IsInImage}
 use Rattle.space_groups.proofs.ScaledPoints.{scaled_path}
@@ -117,7 +117,7 @@ module _ (L : SpaceGroup) where
   unfolding site
   site_length y = length-map (filter (has_fixer y) members) (fixer y) ∙ length-filter (has_fixer y) members
 
-  abbrev pub sites : table.Sites (space L) (on_points L)
+  abbrev pub sites : cover.Sites (space L) (on_points L)
   sites = record { site = site; distinct = site_distinct; exactly = site_is }
 
   -- ---- the elements that leave an average as it is

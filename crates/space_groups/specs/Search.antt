@@ -1,4 +1,4 @@
--- What a search for the rows of the table keeps, and when it is done. This project's own.
+-- What a search for the rows of a group keeps, and when it is done. This project's own.
 use Rattle.std.specs.Prelude.{◌≡◌, ℕ, ◌*◌, ◌≢◌, ◌↔◌, List, [], ◌∷◌, length, All, AllPairs, Contains}
 use Rattle.lattice_algebra.specs.Operator.{Operator}
 use Rattle.lattice_algebra.specs.Map.{Map, ◌∘◌, identity_map}
@@ -59,12 +59,10 @@ IsDone unit members kept k = (e : Map) → IsElement unit members e → (y : Sca
 abbrev pub row_of : Kept → Row
 row_of k = record { mult = k.mult; key = k.key }
 
--- the search is finished: it has the group of the identity alone, no key twice, and nothing to grow; the rows are those of the kept
--- sets, in order
+-- the search is finished: it has the group of the identity alone, and nothing to grow; the rows are those of the kept sets, in order
 pub record IsSearch (unit : ℕ) (members : List Operator) (kept : List Kept) (rows : List Row) : Type 0 where
   pub all : All (IsKept unit members) kept
   pub trivial : (k : Kept) × Contains kept k × (k.set ≡ identity_map ∷ [])
-  pub apart : AllPairs (λ j k. j.key ≢ k.key) kept
   pub done : All (IsDone unit members kept) kept
   pub rows_are : (row : Row) → Contains rows row ↔ ((k : Kept) × Contains kept k × (row_of k ≡ row))
   pub ordered : AllPairs IsRowBefore rows

@@ -1,4 +1,4 @@
--- What is left when the first group was visited is a finished search, so its rows are the table.
+-- What is left when the first group was visited is a finished search, so its rows are the row list, and a table.
 use Rattle.std.proofs.Common.{◌≡◌, List, [], ◌∷◌, get_or, Contains, map, IsPermutation, IsSorted, ap, sym, ◌∙◌, subst, arith}
 use Rattle.std.proofs.lemmas.List.Elements.{All-contains, All-map, All-weaker, Contains-append_left, Contains-get_or}
 use Rattle.std.proofs.lemmas.List.Sorted.{Contains-permutation, IsPermutation-sym}
@@ -14,9 +14,10 @@ use Rattle.group_closure.proofs.Lists.{are_operators}
 use Rattle.space_groups.specs.Space.{IsMembers}
 use Rattle.space_groups.specs.Averages.{Block}
 use Rattle.space_groups.specs.Rows as shown
-use Rattle.space_groups.specs.Rows.{IsRowList}
+use Rattle.space_groups.specs.Rows.{IsTable, IsRowList}
 use Rattle.space_groups.specs.Search.{IsKept, IsDone, IsSearch, row_of}
-use Rattle.space_groups.proofs.Theorem.{table_of_search, row_list_of_search}
+use Rattle.space_groups.proofs.Theorem.{row_list_of_search}
+use Rattle.row_lists.proofs.Theorem.{table_of_row_list}
 use Rattle.affine_sets.specs.declared.TheConstants.{MAX_GROWN_SHIFT, MAX_NEAR_SHIFT}
 use Rattle.affine_sets.specs.Conditions.{IsAverage}
 use Rattle.wyckoff_rows.specs.Shown.{row_in, row_cmp}
@@ -25,7 +26,7 @@ use Rattle.wyckoff_rows.specs.Steps.{kept_in, row_shown, IsEntry, IsAverageNearO
 use Rattle.wyckoff_rows.specs.declared.entry.Entry.{Entry}
 use Rattle.wyckoff_rows.specs.declared.parts.Row.{Row}
 use Rattle.wyckoff_rows.proofs.Lists.{at_contains, contains_at}
-use Rattle.wyckoff_rows.proofs.Ordering.{rows_in_order, apart_mapped}
+use Rattle.wyckoff_rows.proofs.Ordering.{rows_in_order}
 
 pub members_of_group : (members : List Operator) → IsGroup members → IsMembers UNIT members
 members_of_group members g = record {
@@ -35,6 +36,10 @@ members_of_group members g = record {
   products = g.closed;
   narrow = λ f c. (All-contains IsNarrow members f g.narrow c).within_two;
 }
+
+-- a row list of a group is a table
+pub table_of_rows : (members : List Operator) → IsGroup members → (rows : List shown.Row) → IsRowList UNIT members rows → IsTable UNIT members rows
+table_of_rows members g rows list = table_of_row_list UNIT some_parts members (members_of_group members g) rows list
 
 -- an average of a group near the origin is one of a group whose shifts are in range
 pub near_average : (members : List Operator) (a : Block) → IsAverageNearOrigin members a → IsAverage members a
@@ -70,11 +75,10 @@ module _ (members : List Operator) (t : Entry) (kept : List Entry) (rows : List 
       let g = visited.done c.0 u (omega arith) (at_contains kept u c) e m y f q in
       (kept_in g.0, lists.Contains-map kept_in g.0 kept g.1, g.2)
 
-  pub finished : IsSearch UNIT members (map kept_in kept) (map row_in rows)
+  finished : IsSearch UNIT members (map kept_in kept) (map row_in rows)
   finished = record {
     all = All-map (IsKept UNIT members) kept_in kept (λ k d l. (entry_is (get_or kept k d) (Contains-get_or kept k d l)).kept);
     trivial = (kept_in t, lists.Contains-map kept_in t kept (subst (λ v. Contains v t) (sym visited.extends.1) (Contains-append_left (t ∷ []) visited.extends.0 t (lists.Contains-here t []))), trivial);
-    apart = apart_mapped members kept visited.kept;
     done = All-map (IsDone UNIT members (map kept_in kept)) kept_in kept (λ k d l. entry_done (get_or kept k d) (Contains-get_or kept k d l));
     rows_are = λ row. (
       (λ c. let r = from_row row c in (kept_in r.0, lists.Contains-map kept_in r.0 kept r.1, r.2)),
@@ -85,13 +89,13 @@ module _ (members : List Operator) (t : Entry) (kept : List Entry) (rows : List 
     ordered = rows_in_order members kept rows visited.kept same sorted;
   }
 
+  pub the_row_list : IsRowList UNIT members (map row_in rows)
+  the_row_list = row_list_of_search UNIT some_parts members (members_of_group members visited.kept.group) (map kept_in kept) (map row_in rows) finished
+
   pub the_table : IsTableOf members (map row_in rows)
   the_table = record {
-    table = table_of_search UNIT some_parts members (members_of_group members visited.kept.group) (map kept_in kept) (map row_in rows) finished;
+    table = table_of_rows members visited.kept.group (map row_in rows) the_row_list;
     averages = λ k d l.
         let r = from_row (get_or (map row_in rows) k d) (Contains-get_or (map row_in rows) k d l) in
         subst (IsRowOfAverage members) r.2 (row_of_entry members r.0 (entry_is r.0 r.1));
   }
-
-  pub the_row_list : IsRowList UNIT members (map row_in rows)
-  the_row_list = row_list_of_search UNIT some_parts members (members_of_group members visited.kept.group) (map kept_in kept) (map row_in rows) finished

@@ -1,10 +1,10 @@
 -- Worked examples: kept groups, their visits and tables, in P1; nothing cites these.
-use Rattle.std.proofs.Common.{◌≡◌, ◌<◌, ◌≤◌, ◌*◌, ◌⊎◌, ℕ, zero, suc, ℤ, pos, ◌+ℤ◌, ◌*ℤ◌, ◌≤ℤ◌, ◌<ℤ◌, true, false, Some, List, [], ◌∷◌, length, slice_get, inr, ⊎_elim, Contains, ap, sym, subst, refl, arith}
+use Rattle.std.proofs.Common.{◌≡◌, ◌<◌, ◌*◌, ℕ, zero, suc, ℤ, pos, ◌+ℤ◌, ◌*ℤ◌, ◌≤ℤ◌, ◌<ℤ◌, true, false, Some, List, [], ◌∷◌, length, slice_get, inr, ⊎_elim, Contains, ap, sym, subst, refl, arith}
 use Rattle.std.proofs.lemmas.Bool.{false≢true}
 use Rattle.std.proofs.lemmas.Int.{ints}
 use Rattle.std.proofs.lemmas.List.Elements.{All-from_recursion}
 use Rattle.finite_groups.proofs.Members as lists
-use Rattle.lattice_algebra.specs.Matrix.{Column, coordinates, identity, origin, times, ◌·◌, ◌·ᶜ◌, ◌+ᶜ◌}
+use Rattle.lattice_algebra.specs.Matrix.{Column, coordinates, identity, origin, times, ◌·ᶜ◌, ◌+ᶜ◌}
 use Rattle.lattice_algebra.specs.Operator.{identity_operator, modulo}
 use Rattle.lattice_algebra.specs.Map.{Map, identity_map, operator_of}
 use Rattle.lattice_algebra.proofs.Examples.{column, point}
@@ -29,6 +29,7 @@ use Rattle.space_groups.specs.Rows.{Row, Fits, IsTable, IsAt}
 use Rattle.space_groups.proofs.Means as means
 use Rattle.space_groups.proofs.OneOperator as smallest
 use Rattle.wyckoff_rows.specs.declared.ranges.Ranges.{Ranges}
+use Rattle.wyckoff_rows.proofs.Finishing.{table_of_rows}
 use Rattle.wyckoff_rows.proofs.Examples.{o, trivial, fixed, half, without_shift}
 
 -- ---- kept groups
@@ -241,7 +242,7 @@ row_of_average = record { average = alone.average; is_average = average; key = i
 
 table : IsTable UNIT one (general ∷ [])
 unfolding key_of modulo
-table = smallest.table_of_shifts UNIT some_parts
+table = table_of_rows one group_of_one (general ∷ []) (smallest.row_list_of_shifts UNIT some_parts)
 
 table_of_one : IsTableOf one (general ∷ [])
 table_of_one = record { table = table; averages = All-from_recursion (IsRowOfAverage one) (general ∷ []) (row_of_average, tt) }

@@ -1,5 +1,5 @@
 -- The rows in order: sorted, with no two alike, since no two keys are.
-use Rattle.std.proofs.Common.{◌≡◌, ◌≢◌, ◌<◌, ◌+◌, inl, inr, ℤ, Bool, false, Ordering, Less, Equal, Greater, List, length, get_or, map, AllPairs, IsPermutation, IsSorted, ap, ap₂, sym, ◌∙◌, subst₂, arith, refl}
+use Rattle.std.proofs.Common.{◌≡◌, ◌<◌, ◌+◌, inl, inr, ℤ, Bool, false, Ordering, Less, Equal, Greater, List, length, get_or, map, AllPairs, IsPermutation, IsSorted, ap, ap₂, sym, ◌∙◌, subst₂, arith, refl}
 use Rattle.std.proofs.lemmas.List.{length-map, get_or-map}
 use Rattle.std.proofs.lemmas.List.Elements.{All-contains, Contains-get_or}
 use Rattle.std.specs.Cmp.{IsTotalOrder}
@@ -18,10 +18,9 @@ use Rattle.space_groups.proofs.Keys.{same_entries, same_coordinates}
 use Rattle.space_groups.proofs.Ordered.{less_is_below}
 use Rattle.space_groups.specs.Rows as shown
 use Rattle.space_groups.specs.Rows.{IsRowBefore}
-use Rattle.space_groups.specs.Search.{Kept}
 use Rattle.affine_sets.specs.Averages.{KeyOver}
 use Rattle.wyckoff_rows.specs.Shown.{row_in, row_cmp}
-use Rattle.wyckoff_rows.specs.Steps.{kept_in, row_shown, IsEntry, AreKept}
+use Rattle.wyckoff_rows.specs.Steps.{row_shown, IsEntry, AreKept}
 use Rattle.wyckoff_rows.specs.declared.entry.Entry.{Entry}
 use Rattle.wyckoff_rows.specs.declared.parts.Row.{Row}
 use Rattle.wyckoff_rows.proofs.Lists.{some_at}
@@ -32,19 +31,6 @@ row_cmp_total = then_total (back_total (on_total (λ (r : Row). r.mult) nat_cmp_
 
 key_over_path : (p q : KeyOver) → p.key ≡ q.key → p.over ≡ q.over → p ≡ q
 key_over_path p q k o = λ i. record { key = k i; over = o i }
-
-pub apart_mapped : (members : List Operator) (kept : List Entry) → AreKept members kept → AllPairs (λ (j k : Kept). j.key ≢ k.key) (map kept_in kept)
-apart_mapped members kept h i j d l b e =
-    let n : j < length kept = simp length-map at b in
-    let m : i < length kept = omega (arith, l, n) in
-    let x = (some_at kept i m).0 in
-    let u : Entry = get_or kept i x in
-    let v : Entry = get_or kept j x in
-    let p = All-contains (IsEntry members) kept u h.each (Contains-get_or kept i x m) in
-    let q = All-contains (IsEntry members) kept v h.each (Contains-get_or kept j x n) in
-    let a = ap (λ (k : Kept). k.key) (get_or-map kept_in kept i x d m) in
-    let c = ap (λ (k : Kept). k.key) (get_or-map kept_in kept j x d n) in
-    h.apart i j x l n (key_over_path u.key v.key (sym a ∙ e ∙ c) (p.over ∙ sym q.over))
 
 -- ---- what the comparison says
 

@@ -4,7 +4,7 @@ ghost use Rattle.std.specs.Ordering.{is_eq};
 ghost use Rattle.exact_ops.specs.Numbers.{point_in};
 ghost use Rattle.exact_ops.specs.declared.TheConstants.{UNIT};
 ghost use Rattle.space_groups.specs.Rows as shown;
-ghost use Rattle.space_groups.specs.Rows.{Fits, IsAt, IsTable, IsRowList};
+ghost use Rattle.space_groups.specs.Rows.{Fits, IsAt, IsRowList};
 ghost use Rattle.wyckoff_rows.specs.Shown.{row_in, row_cmp};
 
 use crate::parts::{Row, Rows};
@@ -16,8 +16,7 @@ use orbit_map::{image_in_cell, multiplicity};
 
 /// The place of the one row of the table that a point fits, counted from 0.
 pub fn fit(r: &Rows, g: &Group, p: &Point) -> usize
-    requires table { IsTable UNIT g.now r.now }
-    requires list { IsRowList UNIT g.now r.now }
+    requires { IsRowList UNIT g.now r.now }
     ensures fits { (k : ℕ) (row : shown.Row) → IsAt r.now k row
         → (k ≡ result → Fits UNIT g.now row (point_in p.now))
         × (Fits UNIT g.now row (point_in p.now) → k ≡ result) }

@@ -6,6 +6,7 @@ use Rattle.orbit_map.specs.Placed.{IsPlaced}
 use Rattle.space_groups.specs.Rows.{Row}
 use Rattle.wyckoff_rows.specs.Shown.{row_in}
 use Rattle.wyckoff_rows.proofs.Lists.{contains_at}
+use Rattle.wyckoff_rows.proofs.Finishing.{table_of_rows}
 use Rattle.wyckoff_rows.proofs.RowOfPoint.{placed_conjugate, row_of_point, fits_row, fits_at, row_at}
 use Rattle.wyckoff_rows.proofs.fitting.fit.Goals as goal
 
@@ -18,7 +19,7 @@ place_in-requires c =
     let q = c.image_in_cell-near.result.in_range.positive in
     let row : Row = record { mult = c.multiplicity-mult.result; key = c.key-key.result.key } in
     let is = row_of_point c.args.g.now c.average_at.ensures.group y c.average_at.result c.key-key.result.key c.multiplicity-mult.result q c.average_at.ensures.special c.key-key.ensures.key c.multiplicity-mult.ensures.value in
-    subst (λ rows. Contains rows row) (sym (ap (map row_in) c.deref.ensures.value ∙ c.r.view_is)) ((c.requires.list.each row).1 (y, q, is))
+    subst (λ rows. Contains rows row) (sym (ap (map row_in) c.deref.ensures.value ∙ c.r.view_is)) ((c.requires.each row).1 (y, q, is))
 
 pub returns-clause-fits : goal.returns-clause-fits
 returns-clause-fits c =
@@ -33,7 +34,7 @@ returns-clause-fits c =
     let is = row_of_point g group y c.average_at.result c.key-key.result.key c.multiplicity-mult.result q c.average_at.ensures.special c.key-key.ensures.key c.multiplicity-mult.ensures.value in
     let there = subst (λ rows. slice_get rows k ≡ Some row) (ap (map row_in) c.deref.ensures.value ∙ c.r.view_is) c.place_in.ensures in
     let conjugate = placed_conjugate g group x y identity_operator p q (contains_at g 0 identity_operator group.first) (subst (λ f. IsPlaced f x y) c.identity.ensures c.image_in_cell-near.ensures.placed) in
-    fits_at g c.args.r.now x y k row p q c.requires.table conjugate (row_at c.args.r.now k row there) (fits_row g group y row q is)
+    fits_at g c.args.r.now x y k row p q (table_of_rows g group c.args.r.now c.requires) conjugate (row_at c.args.r.now k row there) (fits_row g group y row q is)
 
 pub returns-clause-within : goal.returns-clause-within
 returns-clause-within c =

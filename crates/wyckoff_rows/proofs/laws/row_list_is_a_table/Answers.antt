@@ -1,8 +1,5 @@
-use Rattle.exact_ops.specs.declared.TheConstants.{UNIT}
-use Rattle.exact_ops.proofs.Narrow.{some_parts}
-use Rattle.row_lists.proofs.Theorem.{table_of_row_list}
-use Rattle.wyckoff_rows.proofs.Finishing.{members_of_group}
+use Rattle.wyckoff_rows.proofs.Finishing.{table_of_rows}
 use Rattle.wyckoff_rows.proofs.laws.row_list_is_a_table.Goals as goal
 
 pub returns : goal.returns
-returns c = λ members rows g r. table_of_row_list UNIT some_parts members (members_of_group members g) rows r
+returns c = λ members rows g r. table_of_rows members g rows r
