@@ -74,7 +74,7 @@ numbers_of_form f = record { w = f.b; t = f.s }
 entries_within : (x y z : ℤ) → AreWithin MAX_OVER x y z → AreWithin (2 ^ 31) x y z
 entries_within x y z h = record { first = omega (arith, h.first); second = omega (arith, h.second); third = omega (arith, h.third) }
 
-kept_printable : (f : Form) → IsKeptForm f → HasPrintableComponents f.over (numbers_of_form f)
+pub kept_printable : (f : Form) → IsKeptForm f → HasPrintableComponents f.over (numbers_of_form f)
 kept_printable f h =
     let s = shifts_within f h in
     record {
