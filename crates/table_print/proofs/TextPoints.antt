@@ -1,5 +1,5 @@
 -- The points of the map that a text writes.
-use Rattle.std.proofs.Common.{◌≡◌, ◌++◌, ◌∷◌, [], ◌<◌, ◌≤◌, ◌↔◌, ◌^◌, ◌∙◌, ℕ, ℤ, pos, ◌*ℤ◌, List, ap, sym, arith}
+use Rattle.std.proofs.Common.{◌≡◌, ◌++◌, ◌∷◌, [], ◌<◌, ◌↔◌, ◌∙◌, ℕ, ℤ, pos, ◌*ℤ◌, List, ap, sym}
 use lib.IntN.{*ℤ_comm}
 use Rattle.lattice_algebra.specs.Matrix.{Matrix, Column, entries, coordinates, scaled, times, ◌·ᶜ◌, ◌+ᶜ◌}
 use Rattle.lattice_algebra.specs.Operator.{Operator}
