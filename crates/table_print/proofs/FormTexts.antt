@@ -1,5 +1,5 @@
 -- The line of a row in free coordinates, piece by piece.
-use Rattle.std.proofs.Common.{◌≡◌, ◌≤◌, ◌<◌, ◌*◌, ◌+◌, ℕ, List, [], ◌∷◌, ◌++◌, ℤ, pos, unsigned_abs, slice_index_or, decimal, length, Result, Ok, Err, refl, sym, ap, ap₂, ◌∙◌, append_assoc, w32, w64, arith}
+use Rattle.std.proofs.Common.{◌≡◌, ◌≤◌, ◌<◌, ◌*◌, ◌+◌, ◌^◌, ℕ, List, [], ◌∷◌, ◌++◌, ℤ, pos, unsigned_abs, slice_index_or, decimal, length, Result, Ok, Err, refl, sym, ap, ap₂, ◌∙◌, append_assoc, w32, w64, arith}
 use Rattle.std.proofs.lemmas.Int.{ints}
 use Rattle.std.proofs.lemmas.Option.{slice_get_within}
 use Rattle.lattice_algebra.specs.Operator.{Operator, AreWithin, IsPart, identity_operator}
@@ -10,7 +10,7 @@ use Rattle.group_closure.specs.GroupList.{IsGroup}
 use Rattle.space_groups.specs.Keys.{Key}
 use Rattle.space_groups.specs.Rows.{Row}
 use Rattle.parameter_forms.specs.declared.TheConstants.{MAX_OVER}
-use Rattle.parameter_forms.specs.Forms.{Form, IsParameterForm}
+use Rattle.parameter_forms.specs.Forms.{Form, IsParameterForm, IsSameForm}
 use Rattle.parameter_forms.specs.Finding.{IsKeptForm}
 use Rattle.parameter_forms.proofs.OneForm.{one_form}
 use Rattle.parameter_forms.proofs.SomeForm.{found_form, found_is}
@@ -18,7 +18,7 @@ use Rattle.sg_io.specs.declared.sink.SinkStop.{SinkStop}
 use Rattle.sg_io.specs.Streams.{SeenSink}
 use Rattle.page_print.specs.Printing.{GathersText}
 use Rattle.triplet_text.specs.Bytes.{comma, space, line_feed}
-use Rattle.triplet_text.specs.Printing.{component_text, with_commas, affine_text, IsSameMap}
+use Rattle.triplet_text.specs.Printing.{component_text, with_commas, affine_text, HasPrintableComponents, IsSameMap}
 use Rattle.triplet_text.proofs.AffineSame.{one_text_of_map}
 use Rattle.table_print.specs.Rows.{lines_from}
 use Rattle.table_print.specs.Params.{form_text, GivesForms, param_line, IsParamsText}
@@ -65,6 +65,29 @@ pub same_form_text : ((d e : ℕ) (f g : Operator) → 0 < d → 0 < e → IsSam
 same_form_text one_text n p f g some is also =
     let same = one_form UNIT n p f g some_parts some is also in
     one_text f.over g.over (record { w = f.b; t = f.s }) (record { w = g.b; t = g.s }) is.some also.some (record { matrix = same.matrix; translation = same.shift })
+
+-- ---- a text has the numbers of one form
+
+abbrev numbers_of_form : Form → Operator
+numbers_of_form f = record { w = f.b; t = f.s }
+
+entries_within : (x y z : ℤ) → AreWithin MAX_OVER x y z → AreWithin (2 ^ 31) x y z
+entries_within x y z h = record { first = omega (arith, h.first); second = omega (arith, h.second); third = omega (arith, h.third) }
+
+pub kept_printable : (f : Form) → IsKeptForm f → HasPrintableComponents f.over (numbers_of_form f)
+kept_printable f h =
+    let s = shifts_within f h in
+    record {
+      positive = h.some;
+      over = omega (arith, h.over);
+      entries = record { x = entries_within _ _ _ h.entries.x; y = entries_within _ _ _ h.entries.y; z = entries_within _ _ _ h.entries.z };
+      parts = record { first = omega (arith, s.first); second = omega (arith, s.second); third = omega (arith, s.third) };
+    }
+
+pub one_form_of_text : ((d e : ℕ) (f g : Operator) → HasPrintableComponents d f → HasPrintableComponents e g → affine_text d f ≡ affine_text e g → IsSameMap d f e g) → (f g : Form) → IsKeptForm f → IsKeptForm g → form_text f ≡ form_text g → IsSameForm f g
+one_form_of_text one_map f g p q same =
+    let is = one_map f.over g.over (numbers_of_form f) (numbers_of_form g) (kept_printable f p) (kept_printable g q) same in
+    record { matrix = is.matrix; shift = is.translation }
 
 -- ---- the lines
 

@@ -10,4 +10,5 @@ pub mod RowPages
 pub mod FormTexts
 pub mod TablePages
 mod RowLines
+mod TextPoints
 mod SampleTexts

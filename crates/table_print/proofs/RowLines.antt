@@ -6,7 +6,8 @@ use Rattle.std.proofs.lemmas.Str.Parse.{IsDigitsTest, numerals_by_value}
 use Rattle.lattice_algebra.specs.Operator.{Operator}
 use Rattle.space_groups.specs.Rows.{Row}
 use Rattle.triplet_text.specs.Bytes.{space, line_feed}
-use Rattle.triplet_text.specs.Printing.{affine_text, IsPrintable, IsSameMap}
+use Rattle.triplet_text.specs.Printing.{affine_text, IsPrintable, HasPrintableComponents, IsSameMap}
+use Rattle.triplet_text.proofs.AffineValues.{component_by_component}
 use Rattle.table_print.specs.Rows.{numbers_of_key, shown_row, row_line}
 
 -- bytes that are digits
@@ -42,11 +43,11 @@ place_first n k r = append_assoc (decimal (k + 1)) (space ∷ decimal r.mult) (s
 abbrev pub HaveOneLine : ℕ → ℕ → Row → ℕ → ℕ → Row → Type 0
 HaveOneLine n j r m k s = (j ≡ k) × (r.mult ≡ s.mult) × IsSameMap n (numbers_of_key r.key) m (numbers_of_key s.key)
 
-pub one_row : ((d e : ℕ) (f g : Operator) → IsPrintable d f → IsPrintable e g → affine_text d f ≡ affine_text e g → IsSameMap d f e g) → (n m j k : ℕ) (r s : Row) → j + 1 < 2 ^ 64 → k + 1 < 2 ^ 64 → r.mult < 2 ^ 64 → s.mult < 2 ^ 64
+pub one_row : ((d e : ℕ) (f g : Operator) → HasPrintableComponents d f → HasPrintableComponents e g → affine_text d f ≡ affine_text e g → IsSameMap d f e g) → (n m j k : ℕ) (r s : Row) → j + 1 < 2 ^ 64 → k + 1 < 2 ^ 64 → r.mult < 2 ^ 64 → s.mult < 2 ^ 64
     → IsPrintable n (numbers_of_key r.key) → IsPrintable m (numbers_of_key s.key) → row_line n j r ≡ row_line m k s → HaveOneLine n j r m k s
 one_row one_map n m j k r s hj hk hr hs p q e =
     let shown = sym (place_first n j r) ∙ append_cancel_right (shown_row n j r) (shown_row m k s) (line_feed ∷ []) e ∙ place_first m k s in
     let first = cut_at_space (decimal (j + 1)) (decimal (k + 1)) (behind_place n r) (behind_place m s) (decimal_digits (j + 1) hj) (decimal_digits (k + 1) hk) shown in
     let second = cut_at_space (decimal r.mult) (decimal s.mult) (affine_text n (numbers_of_key r.key)) (affine_text m (numbers_of_key s.key)) (decimal_digits r.mult hr) (decimal_digits s.mult hs) first.1 in
     let places = decimal_injective (j + 1) (k + 1) hj hk first.0 in
-    (omega (arith, places), decimal_injective r.mult s.mult hr hs second.0, one_map n m (numbers_of_key r.key) (numbers_of_key s.key) p q second.1)
+    (omega (arith, places), decimal_injective r.mult s.mult hr hs second.0, one_map n m (numbers_of_key r.key) (numbers_of_key s.key) (component_by_component n (numbers_of_key r.key) p) (component_by_component m (numbers_of_key s.key) q) second.1)

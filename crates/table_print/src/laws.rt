@@ -1,24 +1,29 @@
-ghost use Rattle.std.specs.Prelude.{◌≡◌, ◌+◌, ◌<◌, ◌^◌, ℕ, List};
+ghost use Rattle.std.specs.Prelude.{◌≡◌, ◌+◌, ◌<◌, ◌^◌, ◌↔◌, ℕ, List, length};
 ghost use Rattle.std.specs.List.{Contains};
 ghost use Rattle.lattice_algebra.specs.Operator.{Operator};
 ghost use Rattle.lattice_algebra.specs.Map.{Map};
 ghost use Rattle.lattice_algebra.specs.Point.{Point};
+ghost use Rattle.exact_ops.specs.declared.TheConstants.{UNIT};
 ghost use Rattle.group_closure.specs.GroupList.{IsGroup};
 ghost use Rattle.phase_rules.specs.declared.pairs.Pairs.{Pairs};
 ghost use Rattle.phase_rules.specs.Rows as indices;
-ghost use Rattle.space_groups.specs.Rows.{Row};
+ghost use Rattle.space_groups.specs.Keys.{Key};
+ghost use Rattle.space_groups.specs.Rows.{Row, Lies, IsRowList};
+ghost use Rattle.parameter_forms.specs.Forms.{Form, IsParameterForm, IsSameForm, pair_of};
+ghost use Rattle.parameter_forms.specs.Finding.{IsKeptForm};
 ghost use Rattle.reflections.specs.Boxes.{Box};
 ghost use Rattle.grid_tags.specs.Grids.{Grid, IsGridInRange, IsKept};
-ghost use Rattle.triplet_text.specs.Printing.{IsPrintable, IsSameMap};
+ghost use Rattle.triplet_text.specs.Printing.{affine_text, IsPrintable, IsSameMap};
 ghost use Rattle.table_print.specs.Types.{IsTypeLine};
 ghost use Rattle.table_print.specs.Sites.{IsSiteText};
 ghost use Rattle.table_print.specs.Classes.{IsIndexText, IsBoxText};
 ghost use Rattle.table_print.specs.Grids.{IsGridText};
 ghost use Rattle.table_print.specs.Rows.{numbers_of_key, row_line};
-ghost use Rattle.table_print.specs.Params.{IsParamsText};
+ghost use Rattle.table_print.specs.Params.{form_text, GivesForms, IsParamsText, LiesOnText};
 ghost use Rattle.table_print.specs.Table.{IsTableText};
 
-use triplet_text::affine_text_has_one_map;
+use parameter_forms::form_has_the_points;
+use triplet_text::{affine_text_has_one_map, affine_text_has_values, affine_text_is_unique};
 
 /// Each member of a group has a line of its type, and no operator has two.
 pub fn one_type_line()
@@ -82,6 +87,40 @@ pub fn one_params_text()
     ensures one { (members : List Operator) (rows : List Row) (s t : List ℕ) → IsGroup members
         → IsParamsText members rows s → IsParamsText members rows t → s ≡ t }
 {}
+
+/// The text of a parameter form determines its numbers: forms with one text have the same coefficients and shifts. They are kept
+/// as the form of each row is, which `param` gives.
+pub fn one_form_of_text()
+    ensures { (f g : Form) → IsKeptForm f → IsKeptForm g → form_text f ≡ form_text g
+        → IsSameForm f g }
+{
+    affine_text_has_one_map();
+}
+
+/// A point lies on a row, the line of which `wyckoff` prints, exactly where it lies on the row's parameter form, which `params`
+/// prints.
+pub fn row_and_form_have_the_same_points()
+    ensures { (members : List Operator) (form : Key → Form) → IsGroup members
+        → GivesForms (length members) form → (row : Row) (y : Point)
+        → Lies UNIT (length members) row.key y
+        ↔ Lies UNIT (form row.key).over (pair_of (form row.key)) y }
+{
+    form_has_the_points();
+}
+
+/// A point lies on the map that the line of `wyckoff` writes for a row of a group exactly where it lies on the form that its line
+/// of `params` writes. The form is kept, as `param` gives it.
+pub fn row_texts_have_the_same_points()
+    ensures { (members : List Operator) (rows : List Row) (row : Row) (f : Form) → IsGroup members
+        → IsRowList UNIT members rows → Contains rows row
+        → IsParameterForm UNIT (length members) row.key f → IsKeptForm f → (y : Point)
+        → LiesOnText (affine_text (length members) (numbers_of_key row.key)) y
+        ↔ LiesOnText (form_text f) y }
+{
+    affine_text_has_values();
+    affine_text_is_unique();
+    form_has_the_points();
+}
 
 /// Rows and a box have a text of the command `table`, and one only.
 pub fn one_table_text()

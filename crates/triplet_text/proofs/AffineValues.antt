@@ -8,7 +8,7 @@ use Rattle.std.proofs.Math.Nat.{div-le_self}
 use borrow.Author.Tests.{eqb-true}
 use Rattle.lattice_algebra.specs.Operator.{Operator, AreWithin}
 use Rattle.exact_ops.specs.declared.TheConstants.{UNIT}
-use Rattle.triplet_text.specs.declared.printing.TheConstants.{OVER_LIMIT, PARTS_LIMIT}
+use Rattle.triplet_text.specs.declared.printing.TheConstants.{OVER_LIMIT, COMPONENT_LIMIT}
 use Rattle.triplet_text.specs.declared.component.Component.{Component}
 use Rattle.triplet_text.specs.Bytes.{is_sign, comma, star, slash, plus_sign, minus_sign, zero_digit}
 use Rattle.triplet_text.specs.Tokens.{is_letter}
@@ -16,7 +16,7 @@ use Rattle.triplet_text.specs.Components.{behind}
 use Rattle.triplet_text.specs.Grammar.{value_of, times, translation, negated, added, nothing}
 use Rattle.triplet_text.specs.Fractions.{gcd, quotient_text, fraction_text}
 use Rattle.triplet_text.specs.Coordinates.{AreDigits}
-use Rattle.triplet_text.specs.Printing.{signed_text, joined, terms_text, or_zero, component_text, affine_text, IsPrintable, IsSameMap}
+use Rattle.triplet_text.specs.Printing.{signed_text, joined, terms_text, or_zero, component_text, affine_text, IsPrintable, HasPrintableComponents, IsSameMap}
 use Rattle.triplet_text.specs.AffineTexts.{HasValue, whole, fraction, IsAffineTerm, letter, multiple, constant, AreAffineTerms, none, more, IsAffineSum, bare, minus, IsAffineText}
 use Rattle.triplet_text.proofs.LowestTerms.{IsLowest, is_lowest}
 use Rattle.triplet_text.proofs.Values.{own}
@@ -165,18 +165,18 @@ four_say x y z parts =
 -- a component that is printed over d
 record IsRow (d : ℕ) (x y z parts : ℤ) : Type 0 where
   positive : 0 < d
-  over : d ≤ OVER_LIMIT
-  narrow : AreWithin (2 * d) x y z
-  few : unsigned_abs parts ≤ PARTS_LIMIT
+  over : d ≤ COMPONENT_LIMIT
+  numbers : AreWithin (2 ^ 31) x y z
+  few : unsigned_abs parts ≤ 2 ^ 63
 
 component_sum : (d : ℕ) (x y z parts : ℤ) → IsRow d x y z parts → IsAffineSum d (component_text d x y z parts) (record { x = x; y = y; z = z; parts = parts })
 component_sum d x y z parts row =
     let over = row.over in
     let hd : d < 2 ^ 64 = omega arith in
     let hu : UNIT * d < 2 ^ 64 = omega arith in
-    let sx : unsigned_abs x < 2 ^ 64 = omega (arith, row.narrow.first) in
-    let sy : unsigned_abs y < 2 ^ 64 = omega (arith, row.narrow.second) in
-    let sz : unsigned_abs z < 2 ^ 64 = omega (arith, row.narrow.third) in
+    let sx : unsigned_abs x < 2 ^ 64 = omega (arith, row.numbers.first) in
+    let sy : unsigned_abs y < 2 ^ 64 = omega (arith, row.numbers.second) in
+    let sz : unsigned_abs z < 2 ^ 64 = omega (arith, row.numbers.third) in
     let sp : unsigned_abs parts < 2 ^ 64 = omega (arith, row.few) in
     let letter_joined = λ (byte : ℕ) (no : is_sign byte ≡ false) (is : is_letter byte ≡ true). join_number d (multiple_of d byte) (λ n. times n byte) (multiple_is_size d byte hd no) (λ n hn. multiple_value d byte n row.positive hd hn is) in
     let one = letter_joined 120 refl refl [] nothing x sx refl in
@@ -185,17 +185,29 @@ component_sum d x y z parts row =
     let all = join_number d (fraction_of_parts d) translation (fraction_is_size (UNIT * d) hu) (λ n hn. constant_value d n row.positive hu hn) _ _ parts sp three in
     same_sum d refl (four_say x y z parts) (zero_sum d (terms_text d x y z parts) _ all)
 
-row_x : (d : ℕ) (f : Operator) → IsPrintable d f → IsRow d f.w.xx f.w.xy f.w.xz f.t.x
-row_x d f h = record { positive = h.positive; over = h.over; narrow = h.narrow.x; few = h.parts.first }
+-- a map that can be printed has components that can
+within_word : (d : ℕ) (x y z : ℤ) → d ≤ OVER_LIMIT → AreWithin (2 * d) x y z → AreWithin (2 ^ 31) x y z
+within_word d x y z few h = record { first = omega (arith, few, h.first); second = omega (arith, few, h.second); third = omega (arith, few, h.third) }
 
-row_y : (d : ℕ) (f : Operator) → IsPrintable d f → IsRow d f.w.yx f.w.yy f.w.yz f.t.y
-row_y d f h = record { positive = h.positive; over = h.over; narrow = h.narrow.y; few = h.parts.second }
+pub component_by_component : (d : ℕ) (f : Operator) → IsPrintable d f → HasPrintableComponents d f
+component_by_component d f h = record {
+  positive = h.positive;
+  over = omega (arith, h.over);
+  entries = record { x = within_word d _ _ _ h.over h.narrow.x; y = within_word d _ _ _ h.over h.narrow.y; z = within_word d _ _ _ h.over h.narrow.z };
+  parts = record { first = omega (arith, h.parts.first); second = omega (arith, h.parts.second); third = omega (arith, h.parts.third) };
+}
 
-row_z : (d : ℕ) (f : Operator) → IsPrintable d f → IsRow d f.w.zx f.w.zy f.w.zz f.t.z
-row_z d f h = record { positive = h.positive; over = h.over; narrow = h.narrow.z; few = h.parts.third }
+row_x : (d : ℕ) (f : Operator) → HasPrintableComponents d f → IsRow d f.w.xx f.w.xy f.w.xz f.t.x
+row_x d f h = record { positive = h.positive; over = h.over; numbers = h.entries.x; few = h.parts.first }
+
+row_y : (d : ℕ) (f : Operator) → HasPrintableComponents d f → IsRow d f.w.yx f.w.yy f.w.yz f.t.y
+row_y d f h = record { positive = h.positive; over = h.over; numbers = h.entries.y; few = h.parts.second }
+
+row_z : (d : ℕ) (f : Operator) → HasPrintableComponents d f → IsRow d f.w.zx f.w.zy f.w.zz f.t.z
+row_z d f h = record { positive = h.positive; over = h.over; numbers = h.entries.z; few = h.parts.third }
 
 -- the text of a map has its numbers
-pub text_has_values : (d : ℕ) (f : Operator) → IsPrintable d f → IsAffineText d (affine_text d f) f
+pub text_has_values : (d : ℕ) (f : Operator) → HasPrintableComponents d f → IsAffineText d (affine_text d f) f
 text_has_values d f h =
     let one = component_text d f.w.xx f.w.xy f.w.xz f.t.x in
     let two = component_text d f.w.yx f.w.yy f.w.yz f.t.y in
@@ -211,5 +223,5 @@ text_has_values d f h =
     }
 
 -- maps with one text are one map
-pub one_map : (d e : ℕ) (f g : Operator) → IsPrintable d f → IsPrintable e g → affine_text d f ≡ affine_text e g → IsSameMap d f e g
+pub one_map : (d e : ℕ) (f g : Operator) → HasPrintableComponents d f → HasPrintableComponents e g → affine_text d f ≡ affine_text e g → IsSameMap d f e g
 one_map d e f g p q same = one_map_of_text d e (affine_text d f) f g (text_has_values d f p) (subst (λ (t : List ℕ). IsAffineText e t g) (sym same) (text_has_values e g q))

@@ -6,7 +6,7 @@ use Rattle.lattice_algebra.specs.Matrix.{Column, scaled, times, identity, origin
 use Rattle.lattice_algebra.specs.Operator.{Operator}
 use Rattle.triplet_text.specs.Bytes.{space}
 use Rattle.triplet_text.specs.Dividers.{IsDivider, percents, AreDivided, divided}
-use Rattle.triplet_text.specs.Printing.{IsPrintable, IsSameMap}
+use Rattle.triplet_text.specs.Printing.{IsPrintable, HasPrintableComponents, IsSameMap}
 use Rattle.triplet_text.proofs.Dividers.{divider_to}
 
 -- x,y,z+1 over 2 has the translation 48, and over 1 the translation 24
@@ -41,6 +41,20 @@ printable =
 not_printable : IsPrintable 1 wide → ⊥
 unfolding scaled
 not_printable p = omega (arith, p.narrow.x.first)
+
+-- it has components that can be printed, over each number up to 100000000
+by_components : HasPrintableComponents 1 wide
+unfolding scaled
+by_components =
+    record {
+      positive = omega arith;
+      over = omega arith;
+      entries = record { x = record { first = omega arith; second = omega arith; third = omega arith }; y = record { first = omega arith; second = omega arith; third = omega arith }; z = record { first = omega arith; second = omega arith; third = omega arith } };
+      parts = record { first = omega arith; second = omega arith; third = omega arith };
+    }
+
+not_by_components : HasPrintableComponents 100000001 wide → ⊥
+not_by_components p = omega (arith, p.over)
 
 -- ---- dividers
 

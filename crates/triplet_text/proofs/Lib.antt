@@ -20,7 +20,7 @@ pub mod LowestTerms
 mod Printed
 mod AffineBytes
 mod AffineUnique
-mod AffineValues
+pub mod AffineValues
 pub mod AffineSame
 pub mod SaidLines
 pub mod LineSteps

@@ -1,10 +1,10 @@
 -- The text of an affine map, and of an operator: three components with commas between them.
-use Rattle.std.specs.Prelude.{◌≡◌, ◌<◌, ◌≤◌, ◌==◌, if◌then◌else◌, ℕ, zero, suc, ◌*◌, ℤ, pos, negsuc, unsigned_abs, List, [], ◌∷◌, ◌++◌, fold}
+use Rattle.std.specs.Prelude.{◌≡◌, ◌<◌, ◌≤◌, ◌==◌, if◌then◌else◌, ℕ, zero, suc, ◌*◌, ◌^◌, ℤ, pos, negsuc, unsigned_abs, List, [], ◌∷◌, ◌++◌, fold}
 use Rattle.lattice_algebra.specs.Matrix.{scaled, times}
 use Rattle.lattice_algebra.specs.Operator.{Operator, HasEntriesWithin, AreWithin}
 use Rattle.lattice_algebra.specs.Map.{Map}
 use Rattle.exact_ops.specs.declared.TheConstants.{UNIT}
-use Rattle.triplet_text.specs.declared.printing.TheConstants.{OVER_LIMIT, PARTS_LIMIT}
+use Rattle.triplet_text.specs.declared.printing.TheConstants.{OVER_LIMIT, PARTS_LIMIT, COMPONENT_LIMIT}
 use Rattle.triplet_text.specs.Bytes.{star, plus_sign, minus_sign, comma, zero_digit, letter_x, letter_y, letter_z}
 use Rattle.triplet_text.specs.Fractions.{fraction_text}
 
@@ -61,6 +61,13 @@ pub record IsPrintable (d : ℕ) (f : Operator) : Type 0 where
   pub over : d ≤ OVER_LIMIT
   pub narrow : HasEntriesWithin (2 * d) f.w
   pub parts : AreWithin PARTS_LIMIT f.t.x f.t.y f.t.z
+
+-- the maps whose components can be printed one by one: over at most COMPONENT_LIMIT, with entries of 32 bits and parts of 64 bits
+pub record HasPrintableComponents (d : ℕ) (f : Operator) : Type 0 where
+  pub positive : 0 < d
+  pub over : d ≤ COMPONENT_LIMIT
+  pub entries : HasEntriesWithin (2 ^ 31) f.w
+  pub parts : AreWithin (2 ^ 63) f.t.x f.t.y f.t.z
 
 -- f over d and g over e are one map: the entries and the parts have equal cross products
 pub record IsSameMap (d : ℕ) (f : Operator) (e : ℕ) (g : Operator) : Type 0 where

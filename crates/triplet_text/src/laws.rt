@@ -5,7 +5,7 @@ ghost use Rattle.triplet_text.specs.Lines.{AreRead, IsFirstBad, IsUnreadable, Is
 ghost use Rattle.triplet_text.specs.Dividers.{AreDivided};
 ghost use Rattle.triplet_text.specs.Coordinates.{IsCoordinate};
 ghost use Rattle.triplet_text.specs.Fractions.{fraction_text, frac_text};
-ghost use Rattle.triplet_text.specs.Printing.{affine_text, IsPrintable, IsSameMap};
+ghost use Rattle.triplet_text.specs.Printing.{affine_text, HasPrintableComponents, IsSameMap};
 ghost use Rattle.triplet_text.specs.AffineTexts.{HasValue, IsAffineText};
 
 /// A line is a triplet of one operator at most.
@@ -41,14 +41,15 @@ pub fn equal_fractions_have_one_text()
 
 /// Affine maps with one text have equal numbers.
 pub fn affine_text_has_one_map()
-    ensures { (d e : ℕ) (f g : Operator) → IsPrintable d f
-        → IsPrintable e g → affine_text d f ≡ affine_text e g → IsSameMap d f e g }
+    ensures { (d e : ℕ) (f g : Operator) → HasPrintableComponents d f
+        → HasPrintableComponents e g → affine_text d f ≡ affine_text e g → IsSameMap d f e g }
 {}
 
 /// The text of an affine map has the map's numbers: n / d before each letter, and n / (`UNIT` d) as a constant, in lowest
 /// terms.
 pub fn affine_text_has_values()
-    ensures { (d : ℕ) (f : Operator) → IsPrintable d f → IsAffineText d (affine_text d f) f }
+    ensures { (d : ℕ) (f : Operator) → HasPrintableComponents d f
+        → IsAffineText d (affine_text d f) f }
 {}
 
 /// A text has the values of one affine map at most.
