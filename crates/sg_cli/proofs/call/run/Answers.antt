@@ -9,14 +9,14 @@ returns-in-Ok-clause-status g c = λ read memory.
     status_when_done g.K.Sink.seen g.S.Source.seen
     (texts c.args.words.now) c.args.source.now c.serve.new.source c.args.out.now c.serve.new.out c.in-Ok.ensures.served
 
-pub returns-in-Ok-clause-table : goal.returns-in-Ok-clause-table
-returns-in-Ok-clause-table g c = λ done.
-    tabled_when_done g.K.Sink.seen g.S.Source.seen
-    (texts c.args.words.now) c.args.source.now c.serve.new.source c.args.out.now c.serve.new.out c.in-Ok.ensures.served
-
 pub returns-in-Ok-clause-listed : goal.returns-in-Ok-clause-listed
 returns-in-Ok-clause-listed g c = λ done.
     listed_when_done g.K.Sink.seen g.S.Source.seen
+    (texts c.args.words.now) c.args.source.now c.serve.new.source c.args.out.now c.serve.new.out c.in-Ok.ensures.served
+
+pub returns-in-Ok-clause-table : goal.returns-in-Ok-clause-table
+returns-in-Ok-clause-table g c = λ done.
+    tabled_when_done g.K.Sink.seen g.S.Source.seen
     (texts c.args.words.now) c.args.source.now c.serve.new.source c.args.out.now c.serve.new.out c.in-Ok.ensures.served
 
 pub returns-in-Ok-clause-complete : goal.returns-in-Ok-clause-complete
