@@ -1,9 +1,9 @@
 -- Worked examples: the definitions on literals, most for the word `ops` over an input of no bytes, which is P1; nothing cites these.
-use Rattle.std.proofs.Common.{◌≡◌, ◌≤◌, ◌<◌, ◌+◌, ℕ, zero, suc, ℤ, pos, negsuc, unsigned_abs, None, Some, List, [], ◌∷◌, length, get_or, codes, inl, inr, ⊎_elim, All, Contains, ap, sym, ◌∙◌, subst, refl, arith}
+use Rattle.std.proofs.Common.{◌≡◌, ◌≤◌, ◌<◌, ◌+◌, ℕ, zero, suc, ℤ, pos, negsuc, unsigned_abs, None, Some, List, [], ◌∷◌, length, get_or, ◌++◌, codes, inl, inr, ⊎_elim, All, Contains, ap, sym, ◌∙◌, subst, refl, arith}
 use Rattle.std.specs.List.Sorted.{IsStrictlySortedBy}
 use Rattle.std.proofs.lemmas.Int.{ints}
 use Rattle.std.proofs.lemmas.Option.{slice_get_within}
-use Rattle.std.proofs.lemmas.List.Elements.{All-nil, All-push, All-head, All-weaker}
+use Rattle.std.proofs.lemmas.List.Elements.{All-nil, All-cons, All-push, All-head, All-weaker}
 use Rattle.lattice_algebra.specs.Matrix.{identity, ◌·◌, ◌·ᶜ◌, ◌+ᶜ◌}
 use Rattle.lattice_algebra.specs.Operator.{Operator, identity_operator, product, modulo, AreWithin, HasEntriesWithin}
 use Rattle.lattice_algebra.proofs.Examples.{inverting}
@@ -21,6 +21,7 @@ use Rattle.sg_cli.specs.Inputs.{ReadsNothing}
 use Rattle.sg_cli.specs.Answer.{Answer, IsAnswer, status_of_answer, command, short, listed, closed}
 use Rattle.sg_cli.specs.Laws.{GenerateOneGroup, AreMembersOf, HaveOneText}
 use Rattle.sg_cli.specs.Run.{IsDecided, IsRefusal, IsReadToEnd, before_writing, IfTold, HasStatus, IfRefused, IfPrinted, IsGiven, Completes, IsGroupOf, IsGroupAsked, IsTold}
+use Rattle.sg_cli.specs.Listed.{HoldsOnce, EndsUnder}
 use Rattle.sg_cli.proofs.Soundness.{one_answer}
 use Rattle.sg_cli.proofs.Serving.{reads_something}
 
@@ -266,3 +267,40 @@ one_text list other members more g m n s t p q = p ∙ sym q
 
 more_texts : HaveOneText (λ members text. Unit {0}) → ⊥
 more_texts h = let e : Same 0 1 = ap length (h [] [] one one (λ f. ((λ s. s), (λ s. s))) members_of members_of [] (0 ∷ []) tt tt) in omega (arith, e)
+
+-- ---- what stands once in a list, and what stands last in a text
+
+abbrev IsTwo : ℕ → Type 0
+IsTwo n = Same n 2
+
+one_two : HoldsOnce IsTwo (1 ∷ 2 ∷ [])
+one_two = record {
+  before = 1 ∷ [];
+  it = 2;
+  after = [];
+  whole = refl;
+  holds = refl;
+  none_before = All-cons (λ n. ¬ IsTwo n) 1 [] (λ e. omega (arith, e)) (All-nil (λ n. ¬ IsTwo n));
+  none_after = All-nil (λ n. ¬ IsTwo n);
+}
+
+two_twos : HoldsOnce IsTwo (2 ∷ 2 ∷ []) → ⊥
+two_twos h = by h.before h.it h.after h.whole h.none_before h.none_after
+  where
+    by : (before : List ℕ) (it : ℕ) (after : List ℕ) → 2 ∷ 2 ∷ [] ≡ before ++ it ∷ after → All (λ n. ¬ IsTwo n) before → All (λ n. ¬ IsTwo n) after → ⊥
+    by [] it after e first_none last_none =
+        let rest : 2 ∷ [] ≡ after = cc in
+        All-head (λ n. ¬ IsTwo n) 2 [] (subst (All (λ n. ¬ IsTwo n)) (sym rest) last_none) refl
+    by (x ∷ xs) it after e first_none last_none =
+        let first : Same x 2 = cc in
+        All-head (λ n. ¬ IsTwo n) x xs first_none first
+
+ends_in_two : EndsUnder (1 ∷ []) (λ text. text ≡ 2 ∷ []) (0 ∷ 1 ∷ 2 ∷ [])
+ends_in_two = record { front = 0 ∷ []; end = 2 ∷ []; whole = refl; is_such = refl }
+
+no_heading : EndsUnder (1 ∷ []) (λ text. text ≡ 2 ∷ []) [] → ⊥
+no_heading h = by h.front h.whole
+  where
+    by : (front : List ℕ) → [] ≡ front ++ 1 ∷ [] ++ h.end → ⊥
+    by [] e = absurd cc
+    by (x ∷ xs) e = absurd cc

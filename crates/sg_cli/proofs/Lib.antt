@@ -17,6 +17,7 @@ mod DataTexts
 mod Answering
 pub mod Soundness
 mod Tabled
+mod Listed
 mod SameGroup
 pub mod Outcomes
 mod Serving

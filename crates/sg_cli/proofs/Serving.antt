@@ -22,6 +22,7 @@ use Rattle.sg_cli.specs.Fault.{status_of, fault_of_read}
 use Rattle.sg_cli.specs.Stages.{Gives, Refuses, Stage, ◌>>=◌, behind, refused}
 use Rattle.sg_cli.specs.Answer.{Answer, command, no_command, short, long, Measuring, Over, OverLines, OverInput, AnswerOver, IsAnswer}
 use Rattle.sg_cli.specs.Run.{before_writing, HasStatus, IsDecided, IsReadToEnd, IfKnown, IfTold, IfRefused, IfTabled, Completes}
+use Rattle.sg_cli.specs.Listed.{IfListed}
 use Rattle.sg_cli.specs.Steps.{Answers, Serves}
 use Rattle.sg_cli.proofs.Stages.{IsSound}
 use Rattle.sg_cli.proofs.Commands.{one_asked}
@@ -29,6 +30,7 @@ use Rattle.sg_cli.proofs.SampleTexts.{made_is_group}
 use Rattle.sg_cli.proofs.Soundness.{sound_lines, sound_over}
 use Rattle.sg_cli.proofs.Outcomes.{answers_after}
 use Rattle.sg_cli.proofs.Tabled.{answer_tabled}
+use Rattle.sg_cli.proofs.Listed.{answer_listed}
 
 IfSome-each : {A : Type 0} (o : Option A) (P : A → Type 0) → ((x : A) → P x) → IfSome o P
 IfSome-each None P h = tt
@@ -123,6 +125,10 @@ module _ {S K : Type 0} (sink : SeenSink K) (source : SeenSource S) (words : Lis
   -- the rows that were written
   pub tabled_when_done : Serves sink source words s t old new (Ok tt) → IfTabled words (source.left s) (Appends (sink.held old) (sink.held new))
   tabled_when_done h = (h.1.0, known_after words (source.left s) _ _ (λ bytes a asked is. answer_tabled words bytes h.1.0 asked is a) h.1.1, h.1.2)
+
+  -- the classes or orbits that were written
+  pub listed_when_done : Serves sink source words s t old new (Ok tt) → IfListed words (source.left s) (Appends (sink.held old) (sink.held new))
+  listed_when_done h = (h.1.0, known_after words (source.left s) _ _ (λ bytes a asked is. answer_listed words bytes h.1.0 asked is a) h.1.1, h.1.2)
 
   -- the status of the answer
   pub status_when_stopped : (stop : Fault) → Serves sink source words s t old new (Err stop) → (status_of stop ≡ 3 → ⊥) → (status_of stop ≡ 9 → ⊥) → IfStatus (before_writing (status_of stop))

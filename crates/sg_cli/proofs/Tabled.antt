@@ -5,11 +5,9 @@ use Rattle.exact_ops.specs.declared.TheConstants.{UNIT}
 use Rattle.triplet_text.specs.Lines.{lines_of}
 use Rattle.group_closure.specs.GroupList.{IsGroup}
 use Rattle.space_groups.specs.Rows.{Row, IsTable}
-use Rattle.sg_cli.specs.declared.words.Name.{Name}
-use Rattle.sg_cli.specs.declared.words.Name.TheVariants as named
 use Rattle.sg_cli.specs.declared.words.Input.{Input}
 use Rattle.sg_cli.specs.declared.words.Input.TheVariants.{Made}
-use Rattle.sg_cli.specs.Words.{Asked, IsAsked, Given, family}
+use Rattle.sg_cli.specs.Words.{Asked, IsAsked}
 use Rattle.sg_cli.specs.Inputs.{input_for, DataLines, no_data}
 use Rattle.sg_cli.specs.Stages.{Gives, behind, ◌>>=◌}
 use Rattle.sg_cli.specs.Answering.{Question, OfRows, Of, question, Asking, ShowsRows}
@@ -42,7 +40,7 @@ over_made asked seed bytes text (behind {value = members} m h) = (members, no_da
 over_read : (asked : Asked) (input : Input) (bytes text : List ℕ) → (Measuring bytes >>= λ _. OverLines input (lines_of bytes) (AnswerOver asked)) (Gives text) → (members : List Operator) × (rest : DataLines) × IsGroup members × IsGroupOf input bytes members × AnswerOver asked members rest (Gives text)
 over_read asked input bytes text (behind measured h) = over_lines asked input bytes text h
 
-over_input : (asked : Asked) (input : Input) (bytes text : List ℕ) → OverInput input bytes (AnswerOver asked) (Gives text) → IsOver asked input bytes text
+pub over_input : (asked : Asked) (input : Input) (bytes text : List ℕ) → OverInput input bytes (AnswerOver asked) (Gives text) → IsOver asked input bytes text
 over_input asked (Made seed) bytes text h = over_made asked seed bytes text h
 over_input asked other bytes text h = over_read asked other bytes text h
 

@@ -3,6 +3,7 @@ pub mod Answering
 pub mod Fault
 pub mod Inputs
 pub mod Laws
+pub mod Listed
 pub mod Run
 pub mod Stages
 pub mod Steps

@@ -7,6 +7,7 @@ ghost use Rattle.sg_io.specs.Count.{Rose};
 ghost use Rattle.sg_cli.specs.declared.fault.Fault.{Fault};
 ghost use Rattle.sg_cli.specs.Fault.{status_of, text_of};
 ghost use Rattle.sg_cli.specs.Run.{IsDecided, IsRefusal, IsReadToEnd, before_writing, HasStatus, IfPrinted, IfTabled, IfRefused, IfKnown, IsTold, Completes};
+ghost use Rattle.sg_cli.specs.Listed.{IfListed};
 ghost use Rattle.sg_cli.specs.Steps.{Counted, Serves};
 ghost use Rattle.sg_cli.specs.Words.{IsNoCommand, texts};
 ghost use Rattle.sg_cli.specs.Inputs.{ReadsNothing};
@@ -102,6 +103,12 @@ pub fn run<S: Source, K: Sink, E: Sink>(
     // The rows that were written are those of a Wyckoff table of the group that is asked about.
     ensures table { result ≡ 0 →
         IfTabled (texts words.now) (S.seen.left source.old)
+        (Appends (K.seen.held out.old) (K.seen.held out.new)) }
+
+    // The lines that were written are of the classes or orbits that are asked for: each index of the box is of the class of
+    // exactly one line, each grid point of a cell in the orbit of exactly one, and what a line says is so.
+    ensures listed { result ≡ 0 →
+        IfListed (texts words.now) (S.seen.left source.old)
         (Appends (K.seen.held out.old) (K.seen.held out.new)) }
 
     // No other status hides a fault of writing, or a want of memory of the output.

@@ -6,8 +6,9 @@
 //! There is an answer to all words and bytes (`some_answer`), and one only (`answer_is_unique`). A refusal comes exactly where
 //! it is the first that applies; 3 and 4 come exactly where a read or a write failed in this call. Where nothing fails, the
 //! text is printed whole, or memory is wanted, which is status 9. The rows that are printed are a Wyckoff table of the group
-//! that is asked about. For `sample` nothing is read, and all of it holds also where a source tells no bytes. Operators that
-//! generate one group have one answer (`answer_of_one_group`), and one text of rows (`rows_of_one_group`).
+//! that is asked about, and each class of reflections or orbit of grid points that is asked for has exactly one of the lines.
+//! For `sample` nothing is read, and all of it holds also where a source tells no bytes. Operators that generate one group have
+//! one answer (`answer_of_one_group`), and one text of rows (`rows_of_one_group`).
 #![tactic(auto)]
 
 mod answers;

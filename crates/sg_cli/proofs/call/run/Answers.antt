@@ -1,12 +1,17 @@
 use Rattle.std.proofs.Common.{refl}
 use Rattle.sg_cli.specs.Words.{texts, IsNoCommand}
-use Rattle.sg_cli.proofs.Serving.{words_status, refused_when_stopped, status_when_done, status_when_stopped, tabled_when_done, complete_when_done, complete_when_stopped, unread_when_stopped, end_when_stopped, unless_status}
+use Rattle.sg_cli.proofs.Serving.{words_status, refused_when_stopped, status_when_done, status_when_stopped, tabled_when_done, listed_when_done, complete_when_done, complete_when_stopped, unread_when_stopped, end_when_stopped, unless_status}
 use Rattle.sg_cli.specs.declared.fault.Fault.TheVariants.{Reading}
 use Rattle.sg_cli.proofs.call.run.Goals as goal
 
 pub returns-in-Ok-clause-status : goal.returns-in-Ok-clause-status
 returns-in-Ok-clause-status g c = λ read memory.
     status_when_done g.K.Sink.seen g.S.Source.seen
+    (texts c.args.words.now) c.args.source.now c.serve.new.source c.args.out.now c.serve.new.out c.in-Ok.ensures.served
+
+pub returns-in-Ok-clause-listed : goal.returns-in-Ok-clause-listed
+returns-in-Ok-clause-listed g c = λ done.
+    listed_when_done g.K.Sink.seen g.S.Source.seen
     (texts c.args.words.now) c.args.source.now c.serve.new.source c.args.out.now c.serve.new.out c.in-Ok.ensures.served
 
 pub returns-in-Ok-clause-table : goal.returns-in-Ok-clause-table
