@@ -16,6 +16,8 @@ use Rattle.group_closure.specs.GroupList.{IsGroupList}
 use Rattle.space_groups.specs.Keys.{key_of}
 use Rattle.space_groups.specs.Rows.{Row, IsAt, Fits, IsTable}
 use Rattle.space_groups.proofs.OneOperator as smallest
+use Rattle.group_closure.proofs.Examples.{group_of_one}
+use Rattle.wyckoff_rows.proofs.Finishing.{table_of_rows}
 use Rattle.triplet_text.specs.Lines.{skipped, blank, end}
 use Rattle.samples.specs.Points.{next, drawn, made_point}
 use Rattle.samples.specs.Groups.{number_of, IsSampleGroup}
@@ -82,7 +84,7 @@ general = record { mult = 1; key = record { m = identity; t = origin } }
 
 table : IsTable UNIT one (general ∷ [])
 unfolding key_of modulo
-table = smallest.table_of_shifts UNIT some_parts
+table = table_of_rows one group_of_one (general ∷ []) (smallest.row_list_of_shifts UNIT some_parts)
 
 at_place : (k : ℕ) (row : Row) → IsAt (general ∷ []) k row → general ≡ row
 at_place zero row a = a.is general

@@ -1,6 +1,6 @@
 ghost use Rattle.std.specs.Prelude.{IfOk};
 ghost use Rattle.exact_ops.specs.declared.TheConstants.{UNIT};
-ghost use Rattle.space_groups.specs.Rows.{IsTable, IsRowList};
+ghost use Rattle.space_groups.specs.Rows.{IsRowList};
 ghost use Rattle.samples.specs.Counts.{AreCounts};
 ghost use Rattle.samples.specs.declared.counting.TheConstants.{POINTS as MADE};
 
@@ -21,8 +21,7 @@ pub fn count_points(
     rows: &Rows,
     seed: u32,
 ) -> Result<Vec<u16>, NoMemory>
-    requires table { IsTable UNIT group.now rows.now }
-    requires list { IsRowList UNIT group.now rows.now }
+    requires { IsRowList UNIT group.now rows.now }
     ensures { IfOk result (λ counts. AreCounts group.now rows.now seed MADE counts.items) }
 {
     let Ok(mut counts) = vec![in alloc; 0u16; rows.len()] else {

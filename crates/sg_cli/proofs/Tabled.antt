@@ -5,6 +5,7 @@ use Rattle.exact_ops.specs.declared.TheConstants.{UNIT}
 use Rattle.triplet_text.specs.Lines.{lines_of}
 use Rattle.group_closure.specs.GroupList.{IsGroup}
 use Rattle.space_groups.specs.Rows.{Row, IsTable}
+use Rattle.wyckoff_rows.proofs.Finishing.{table_of_rows}
 use Rattle.sg_cli.specs.declared.words.Input.{Input}
 use Rattle.sg_cli.specs.declared.words.Input.TheVariants.{Made}
 use Rattle.sg_cli.specs.Words.{Asked, IsAsked}
@@ -20,7 +21,7 @@ use Rattle.sg_cli.proofs.WyckoffTexts.{some_rows}
 
 module _ (members : List Operator) (g : IsGroup members) (rest : DataLines) (text : List ℕ) where
   shown : (q : Question) → Asking q members rest (Gives text) → (rows : List Row) × IsTable UNIT members rows × ShowsRows q members rows text
-  shown (OfRows IsText) h = (h.rows, h.table, h.is_text)
+  shown (OfRows IsText) h = (h.rows, table_of_rows members g h.rows h.list, h.is_text)
   -- a group has a table where none of its rows is shown too
   shown (Of stage) h = let rows = some_rows members g in (rows.0, rows.1, tt)
 

@@ -7,7 +7,7 @@ use Rattle.exact_ops.proofs.Narrow.{some_parts}
 use Rattle.group_closure.specs.GroupList.{IsGroup}
 use Rattle.space_groups.specs.Rows.{Row, IsAt, Fits, IsTable, IsRowList}
 use Rattle.space_groups.proofs.Ordered.{one_row_list}
-use Rattle.wyckoff_rows.proofs.Finishing.{members_of_group}
+use Rattle.wyckoff_rows.proofs.Finishing.{members_of_group, table_of_rows}
 use Rattle.row_lists.proofs.Theorem.{some_table}
 use Rattle.phase_rules.specs.declared.pairs.Pairs.{Pairs}
 use Rattle.reflections.specs.Boxes.{Box}
@@ -24,13 +24,13 @@ module _ (members : List Operator) (g : IsGroup members) where
     pub one_text_of_rows : ((rows : List Row) → IsTable UNIT members rows → (s t : List ℕ) → IsText rows s → IsText rows t → s ≡ t) → (s t : List ℕ) → IsTextOfRows members IsText s → IsTextOfRows members IsText t → s ≡ t
     one_text_of_rows one s t p q =
         let same = one_row_list UNIT members p.rows q.rows p.list q.list in
-        one q.rows q.table s t (subst (λ rows. IsText rows s) same p.is_text) q.is_text
+        one q.rows (table_of_rows members g q.rows q.list) s t (subst (λ rows. IsText rows s) same p.is_text) q.is_text
 
     pub some_text_of_rows : ((rows : List Row) → IsTable UNIT members rows → (text : List ℕ) × IsText rows text) → (text : List ℕ) × IsTextOfRows members IsText text
     some_text_of_rows some =
         let rows = some_rows in
         let text = some rows.0 rows.1 in
-        (text.0, record { rows = rows.0; table = rows.1; list = rows.2; is_text = text.1 })
+        (text.0, record { rows = rows.0; list = rows.2; is_text = text.1 })
 
   -- ---- the line of the row that a point fits
 

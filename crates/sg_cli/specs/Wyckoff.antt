@@ -3,17 +3,16 @@ use Rattle.std.specs.Prelude.{ℕ, List}
 use Rattle.lattice_algebra.specs.Operator.{Operator}
 use Rattle.lattice_algebra.specs.Point.{Point}
 use Rattle.exact_ops.specs.declared.TheConstants.{UNIT}
-use Rattle.space_groups.specs.Rows.{Row, Fits, IsTable, IsRowList}
+use Rattle.space_groups.specs.Rows.{Row, Fits, IsRowList}
 use Rattle.table_print.specs.Rows.{IsRowText}
 use Rattle.table_print.specs.Sample.{IsSampleText}
 use Rattle.samples.specs.declared.counting.TheConstants.{POINTS}
 use Rattle.samples.specs.Groups.{number_of}
 use Rattle.samples.specs.Counts.{AreCounts}
 
--- such a text of rows that are a Wyckoff table of the space group, and its row list
+-- such a text of the row list of the space group, which is its Wyckoff table
 pub record IsTextOfRows (members : List Operator) (IsText : List Row → List ℕ → Type 0) (text : List ℕ) : Type 0 where
   pub rows : List Row
-  pub table : IsTable UNIT members rows
   pub list : IsRowList UNIT members rows
   pub is_text : IsText rows text
 

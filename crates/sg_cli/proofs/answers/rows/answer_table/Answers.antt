@@ -7,9 +7,8 @@ use Rattle.sg_cli.proofs.answers.rows.answer_table.Goals as goal
 pub returns-in_err-print_table-clause-answers : goal.returns-in_err-print_table-clause-answers
 returns-in_err-print_table-clause-answers g c =
     let p = err_from_is_err_and c.from_residual-in_err-print_table.result c.from_residual-in_err-print_table.ensures.1 in
-    let rows = c.in_ok-rows.ensures in
     let list = c.in_ok-list.ensures in
-    rw (p.1 ∙ ap Err p.2) (text_stopped g.K.Sink.seen (λ text t. record { rows = c.in_ok-rows.rows; table = rows.table.table; list = rows.list; is_text = same_table_text c.args.group.now c.in_ok-rows.rows list.same_pairs list.size text t })
+    rw (p.1 ∙ ap Err p.2) (text_stopped g.K.Sink.seen (λ text t. record { rows = c.in_ok-rows.rows; list = c.in_ok-rows.ensures.list; is_text = same_table_text c.args.group.now c.in_ok-rows.rows list.same_pairs list.size text t })
     c.args.out.now c.print_table.new.sink c.in_err-print_table.field-0.0 c.in_err-print_table.ensures.text)
 
 pub returns-in_err-print_table-clause-counted : goal.returns-in_err-print_table-clause-counted
@@ -20,6 +19,5 @@ returns-in_err-print_table-clause-counted g c =
 pub returns-clause-answers : goal.returns-clause-answers
 returns-clause-answers g c =
     let p = c.in_ok-print_table.ensures.text.ok in
-    let rows = c.in_ok-rows.ensures in
     let list = c.in_ok-list.ensures in
-    (p.0, record { rows = c.in_ok-rows.rows; table = rows.table.table; list = rows.list; is_text = same_table_text c.args.group.now c.in_ok-rows.rows list.same_pairs list.size p.0 p.1 }, p.2)
+    (p.0, record { rows = c.in_ok-rows.rows; list = c.in_ok-rows.ensures.list; is_text = same_table_text c.args.group.now c.in_ok-rows.rows list.same_pairs list.size p.0 p.1 }, p.2)

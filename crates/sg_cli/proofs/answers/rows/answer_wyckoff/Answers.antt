@@ -6,12 +6,10 @@ use Rattle.sg_cli.proofs.answers.rows.answer_wyckoff.Goals as goal
 pub returns-in_err-print_rows-clause-answers : goal.returns-in_err-print_rows-clause-answers
 returns-in_err-print_rows-clause-answers g c =
     let p = err_from_is_err_and c.from_residual-in_err-print_rows.result c.from_residual-in_err-print_rows.ensures.1 in
-    let rows = c.in_ok-rows.ensures in
-    rw (p.1 ∙ ap Err p.2) (text_stopped g.K.Sink.seen (λ text t. record { rows = c.in_ok-rows.rows; table = rows.table.table; list = rows.list; is_text = t })
+    rw (p.1 ∙ ap Err p.2) (text_stopped g.K.Sink.seen (λ text t. record { rows = c.in_ok-rows.rows; list = c.in_ok-rows.ensures.list; is_text = t })
     c.args.out.now c.print_rows.new.sink c.in_err-print_rows.field-0.0 c.in_err-print_rows.ensures)
 
 pub returns-clause-answers : goal.returns-clause-answers
 returns-clause-answers g c =
     let p = c.in_ok-print_rows.ensures.ok in
-    let rows = c.in_ok-rows.ensures in
-    (p.0, record { rows = c.in_ok-rows.rows; table = rows.table.table; list = rows.list; is_text = p.1 }, p.2)
+    (p.0, record { rows = c.in_ok-rows.rows; list = c.in_ok-rows.ensures.list; is_text = p.1 }, p.2)
