@@ -1,4 +1,4 @@
-use Rattle.std.proofs.Common.{ℤ, FitsSigned, arith}
+use Rattle.std.proofs.Common.{FitsSigned, arith}
 use Rattle.std.proofs.lemmas.Int.{ints}
 use mir.Syntax.{w128}
 use Rattle.orbit_map.proofs.Nearer.{undivided, divided}
