@@ -1,8 +1,10 @@
 -- Points over multiples of UNIT are compared by smaller cross products.
-use Rattle.std.proofs.Common.{◌≡◌, ◌⊎◌, inl, inr, ⊎_elim, int_eq, ◌↔◌, ◌≤◌, ◌*◌, ◌^◌, ◌∷◌, [], List, ℕ, ℤ, pos, ◌*ℤ◌, ◌<ℤ◌, ◌≤ℤ◌, unsigned_abs, Bool, IsTrue, eqb, of_z, to_z, to_z-of_z, ap, sym, ◌∙◌, arith}
+use Rattle.std.proofs.Common.{◌≡◌, ◌⊎◌, inl, inr, ⊎_elim, int_eq, ◌↔◌, ◌≤◌, ◌*◌, ◌^◌, ◌∷◌, [], List, ℕ, ℤ, pos, ◌*ℤ◌, ◌<ℤ◌, ◌≤ℤ◌, unsigned_abs, Bool, IsTrue, eqb, of_z, to_z, to_z-of_z, T, ltb, FitsSigned, lt_of_le_of_lt, ap, ap₂, sym, ◌∙◌, arith}
 use Rattle.std.proofs.lemmas.Bool.{eqb-true, eq-eqb, cases_Bool, false≢true}
 use Rattle.std.specs.Cmp.{signed_Decides}
-use Rattle.std.proofs.lemmas.Int.{ints}
+use Rattle.std.specs.Int.{int_wrapping_mul, int_wrap}
+use Rattle.std.proofs.lemmas.Int.{ints, wrapping_mul_is, fits_signed_from_abs}
+use lib.Dec.{ltb→lt}
 use mir.Syntax.{w128}
 use Rattle.lattice_algebra.specs.Matrix.{Column, times}
 use Rattle.lattice_algebra.specs.Point.{Point, ◌≈◌}
@@ -11,6 +13,7 @@ use Rattle.lattice_algebra.proofs.Ring.{var, ◌⊗◌, ring}
 use Rattle.lattice_algebra.proofs.Machine.{IsWithin, back, fits, computed}
 use Rattle.exact_ops.specs.declared.TheConstants.{UNIT, MAX_DENOMINATOR}
 use Rattle.exact_ops.specs.Points.{IsPointInRange}
+use Rattle.exact_ops.proofs.Bounds.{denominator_bound, numerator_bound, denominator_within, numerators_within}
 use Rattle.space_groups.specs.Space.{IsInCell}
 
 -- ---- cross products in the machine
@@ -118,6 +121,23 @@ asked b x d u e within h =
     let l = left_is x d u e within in
     let r = right_is x d u e within in
     ((λ t. sym l ∙ h.0 t ∙ r), (λ s. h.1 (l ∙ s ∙ sym r)))
+
+-- ---- cross products in the bits that the machine keeps
+
+fits_within : (n : ℕ) (z : ℤ) → unsigned_abs z ≤ n → T (ltb n (2 ^ 127)) → FitsSigned w128 z
+fits_within n z h t = fits_signed_from_abs w128 z (lt_of_le_of_lt h (ltb→lt n (2 ^ 127) t))
+
+-- equal products are kept alike
+same_kept : (a b c d r s : ℤ) → FitsSigned w128 a → FitsSigned w128 b → FitsSigned w128 c → FitsSigned w128 d → r ≡ int_wrapping_mul w128 (back w128 a) (back w128 b) → s ≡ int_wrapping_mul w128 (back w128 c) (back w128 d) → a *ℤ b ≡ c *ℤ d → r ≡ s
+same_kept a b c d r s fa fb fc fd e k p =
+    e ∙ ap₂ (int_wrapping_mul w128) (to_z-of_z fa) (to_z-of_z fb) ∙ wrapping_mul_is w128 a b fa fb ∙ ap (int_wrap w128) p ∙ sym (wrapping_mul_is w128 c d fc fd) ∙ sym (ap₂ (int_wrapping_mul w128) (to_z-of_z fc) (to_z-of_z fd)) ∙ sym k
+
+pub kept_apart : (p q : Point) (r s : ℤ) → IsPointInRange p → IsPointInRange q → r ≡ int_wrapping_mul w128 (back w128 q.d) (back w128 p.n.x) → s ≡ int_wrapping_mul w128 (back w128 p.d) (back w128 q.n.x) → p ≈ q → r ≡ s
+unfolding times
+kept_apart p q r s in_range other e k same =
+    let fits_d : (x : Point) → IsPointInRange x → FitsSigned w128 x.d = λ x g. fits_within denominator_bound x.d (denominator_within x g) tt in
+    let fits_x : (x : Point) → IsPointInRange x → FitsSigned w128 x.n.x = λ x g. fits_within numerator_bound x.n.x ((numerators_within x g).first) tt in
+    same_kept q.d p.n.x p.d q.n.x r s (fits_d q other) (fits_x p in_range) (fits_d p in_range) (fits_x q other) e k (ap (λ (c : Column). c.x) same)
 
 -- ---- whether two points are one
 

@@ -1,4 +1,5 @@
 ghost use Rattle.std.specs.Prelude.{◌≡◌, ◌↔◌, ◌≤◌, ◌*◌, ◌^◌, ℤ, pos, ◌*ℤ◌, ◌<ℤ◌, unsigned_abs, IsTrue};
+ghost use Rattle.std.specs.Int.{w128, int_wrapping_mul};
 ghost use Rattle.lattice_algebra.specs.Point.{◌≈◌};
 ghost use Rattle.exact_ops.specs.declared.TheConstants.{UNIT as PARTS, MAX_DENOMINATOR};
 ghost use Rattle.exact_ops.specs.Numbers.{point_in};
@@ -12,6 +13,9 @@ pub fn is_same_point(p: &Point, q: &Point) -> bool
     requires second { IsInCell (point_in q.now) }
     ensures { IsTrue result ↔ (point_in p.now ≈ point_in q.now) }
 {
+    if is_surely_other(p, q) {
+        return false;
+    }
     let [x, y, z] = p.n;
     let [u, v, w] = q.n;
     let d = over_unit(p);
@@ -23,6 +27,22 @@ pub fn is_same_point(p: &Point, q: &Point) -> bool
         return false;
     }
     is_same_ratio(z, d, w, e)
+}
+
+/// Whether the cross products of the first coordinates differ in the bits that the machine keeps, as they do for most points.
+fn is_surely_other(p: &Point, q: &Point) -> bool
+    ensures { IsTrue result → point_in p.now ≈ point_in q.now → ⊥ }
+{
+    let [x, _, _] = p.n;
+    let [u, _, _] = q.n;
+    kept_product(q.d, x) != kept_product(p.d, u)
+}
+
+/// The product in the bits that the machine keeps.
+fn kept_product(a: i128, b: i128) -> i128
+    ensures { result ≡ int_wrapping_mul w128 a b }
+{
+    a.wrapping_mul(b)
 }
 
 /// The denominator of the point over `UNIT`, which divides it.

@@ -1,3 +1,4 @@
+mod Nearer
 mod Images
 mod Order
 pub mod OrbitLists

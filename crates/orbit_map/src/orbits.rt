@@ -1,4 +1,5 @@
-ghost use Rattle.std.specs.Prelude.{◌≡◌, IfOk, length};
+ghost use Rattle.std.specs.Prelude.{◌≡◌, IfOk, pos, ◌<ℤ◌, ◌<◌, unsigned_abs, length};
+ghost use Rattle.std.specs.Int.{IsNonNegative, int_rem_euclid};
 ghost use Rattle.lattice_algebra.specs.Operator.{IsOperator};
 ghost use Rattle.exact_ops.specs.declared.TheConstants.{UNIT};
 ghost use Rattle.exact_ops.specs.Numbers.{point_in};
@@ -37,9 +38,37 @@ pub fn image_in_cell(op: &Op, point: &Point) -> Point
     let [x, y, z] = op.image_of(point);
     let d = point.d;
     Point {
-        n: [x.rem_euclid(d), y.rem_euclid(d), z.rem_euclid(d)],
+        n: [remainder(x, d), remainder(y, d), remainder(z, d)],
         d,
     }
+}
+
+/// The remainder of n by d. Most images lie in the cell or beside it, and are not divided.
+fn remainder(n: i128, d: i128) -> i128
+    requires { pos 0 <ℤ d }
+    ensures value { result ≡ int_rem_euclid n d }
+    ensures lower_bound { IsNonNegative result }
+    ensures upper_bound { unsigned_abs result < unsigned_abs d }
+{
+    let near = nearer(n, d);
+    if near >= 0 && near < d {
+        return near;
+    }
+    near.rem_euclid(d)
+}
+
+/// A number with the same remainder by d, nearer to 0 where n is not in the cell.
+fn nearer(n: i128, d: i128) -> i128
+    requires { pos 0 <ℤ d }
+    ensures { int_rem_euclid result d ≡ int_rem_euclid n d }
+{
+    if n < 0 {
+        return n + d;
+    }
+    if n >= d {
+        return n - d;
+    }
+    n
 }
 
 /// By the numerators, and by the denominators where they are alike.

@@ -5,6 +5,9 @@ use Rattle.exact_ops.specs.Numbers.{point_in}
 use Rattle.atom_expand.proofs.SamePoints.{small_in_cell, asked, ratios_of, same_of}
 use Rattle.atom_expand.proofs.same.is_same_point.Goals as goal
 
+pub returns-then-is_surely_other : goal.returns-then-is_surely_other
+returns-then-is_surely_other c = ((λ t. absurd (false≢true t)), (λ s. absurd (c.is_surely_other.ensures c.if-is_surely_other.true s)))
+
 pub returns-then-not-is_same_ratio : goal.returns-then-not-is_same_ratio
 returns-then-not-is_same_ratio c =
     let p : Point = point_in c.args.p.now in
