@@ -21,6 +21,14 @@ count() {
         sed -n 's/.*Collected : //p' | awk '{ printf "%.2f", $1 / 1e6 }'
 }
 
+# data NAME NUMBER PROGRAM WORDS.. : a line for this command over the group of examples/ and so many data lines of the awk program
+data() {
+    local name=$1 number=$2 program=$3
+    shift 3
+    { cat "examples/$name.txt" && echo %% && awk -v number="$number" "$program"; } >"$made/data"
+    printf '| `%s`, %s, %s data lines | %s |\n' "$*" "$name" "$number" "$(count "$made/data" "$@")"
+}
+
 heading() { printf '\n| %s | Instructions |\n|---|---|\n' "$1"; }
 
 # call NAME WORDS.. : a line for this command and this group of examples/
@@ -39,7 +47,7 @@ lines() {
 
 heading 'Call, group'
 for name in p21c fm-3m; do
-    for words in ops types 'site 0 0 0' 'site 0.11 0.22 0.35' wyckoff 'fit 0.1 0.1 0.5' 'index 1 2 3' 'refl 9 9 9' 'table 9 9 9' \
+    for words in ops types 'site 0 0 0' 'site 0.11 0.22 0.35' wyckoff params report 'fit 0.1 0.1 0.5' 'index 1 2 3' 'refl 9 9 9' 'table 9 9 9' \
         'grid 16 16 16' 'basis y,z,x' 'recell 1 -x+y+z,x-y+z,x+y-z'; do
         # shellcheck disable=SC2086
         call "$name" $words
@@ -50,7 +58,7 @@ call p-1 sample 7
 
 heading 'Operators'
 for name in p-1 p21c p6mmm fm-3m; do
-    for words in ops wyckoff; do call "$name" "$words"; done
+    for words in ops wyckoff params report; do call "$name" "$words"; done
 done
 
 heading 'Indices of a box'
@@ -65,3 +73,29 @@ done
 
 heading 'Lines'
 for number in 100 1000 10000 100000 174762; do lines "$number"; done
+
+# Pseudorandom numbers, below 2^31, by the rule of a linear congruence.
+draw='function draw(most) { seed = (seed * 1103515245 + 12345) % 2147483648; return int(seed / 65536) % most }'
+
+heading 'Sites'
+for number in 1000 4096; do
+    for name in p21c fm-3m; do
+        data "$name" "$number" "$draw BEGIN { while (number--) printf \"A 0.%06d 0.%06d 0.%06d\n\", draw(32768), draw(32768), draw(32768) }" atoms
+    done
+done
+
+heading 'Measured reflections'
+for number in 10000 100000; do
+    for name in p21c fm-3m; do
+        lines="$draw BEGIN { while (number--) print draw(19) - 9, draw(19) - 9, draw(19) - 9, draw(10) }"
+        data "$name" "$number" "$lines" merge
+        data "$name" "$number" "$lines" merge anomalous
+    done
+done
+
+heading 'Values of a map'
+for side in 16 32 64; do
+    for name in p-1 fm-3m; do
+        data "$name" "$((side * side * side))" "$draw BEGIN { while (number--) print draw(10) }" map "$side" "$side" "$side"
+    done
+done
