@@ -11,8 +11,8 @@ r"""The space-group engine sg, as a module over its library.
     >>> print(sg.answer(["fit", "0", "1/2", "0"], group.input))
     ...
 
-Needs the standard library alone, and libsg.so: that which the environment variable SG_LIBRARY names, else that in ../lib beside
-the folder of this file, else that which the system finds.
+Needs the standard library alone, and libsg.so: that which the environment variable SG_LIBRARY names, else that in the next folder
+`lib` up from this file, else that which the system finds.
 """
 
 import ctypes
@@ -119,8 +119,8 @@ class _Site(ctypes.Structure):
 
 
 def _load() -> ctypes.CDLL:
-    beside = Path(__file__).resolve().parent.parent / "lib" / "libsg.so"
-    library = ctypes.CDLL(os.environ.get("SG_LIBRARY") or (str(beside) if beside.exists() else "libsg.so"))
+    above = (folder / "lib" / "libsg.so" for folder in Path(__file__).resolve().parents)
+    library = ctypes.CDLL(os.environ.get("SG_LIBRARY") or next((str(path) for path in above if path.exists()), "libsg.so"))
     group = POINTER(_Handle)
     for name, result, arguments in (
         ("sg_answer", c_uint8, (c_char_p, c_size_t, c_char_p, c_size_t, c_char_p, c_size_t, c_char_p, c_size_t, POINTER(_Lengths))),
