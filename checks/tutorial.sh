@@ -2,7 +2,8 @@
 # The transcripts of docs/tutorial.md, README.md and the manual page, run with the built program. A transcript stands between two
 # lines of three backquotes: behind `$ ` a command, which lines with `> ` go on; then what it prints, standard error too. The
 # commands of a page run one after the other in a folder of their own, so one may read what another wrote there. Each has to end
-# with status 0. Then whether the manual page and the completion of bash know the commands and the faults of docs/formats.md.
+# with status 0. Then whether README.md, the manual page and the completion of bash know the commands of docs/formats.md, and the
+# manual page the faults.
 #
 #     bash checks/tutorial.sh [PROGRAM]
 #
@@ -35,7 +36,7 @@ begin_page() {
 # missing.
 end_step() {
     case $command in
-        '' | 'rt '* | 'install '* | 'gemmi '*) ;;
+        '' | 'rt '* | 'bin/install'* | 'gemmi '*) ;;
         *python3*) if command -v python3 >/dev/null; then run_step; else skipped=$((skipped + 1)); fi ;;
         *) run_step ;;
     esac
@@ -123,12 +124,14 @@ holds() {
 }
 
 ask_names() {
-    local words wanted fault
+    local words shown wanted fault
     calls_of_formats >"$made/calls"
     completed '' | sort >"$made/completed"
     cut -d ' ' -f 1 "$made/calls" | sort -u >"$made/names"
     holds "$completion: the commands" cmp "$made/names" "$made/completed"
     while read -ra words; do
+        shown=${words[*]}
+        holds "README.md: $shown" grep -qF "| \`${shown% anomalous}\` |" README.md
         holds "$manual: ${words[0]}" grep -qx "\\.It Cm ${words[0]}\\( .*\\)\\?" "$manual"
         wanted=$(grep -qx "${words[*]} anomalous" "$made/calls" && echo anomalous)
         holds "$completion: behind ${words[*]}" test "$(completed "${words[@]}" '')" = "$wanted"
