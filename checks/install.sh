@@ -114,8 +114,8 @@ beside_others() {
     mkdir -p "$folder/bin" "$folder/share/man/man1" "$bin"
     echo theirs >"$folder/bin/other"
     printf '#!/bin/sh\n' >"$bin/sg" && chmod +x "$bin/sg"
-    holds 'another sg comes first' tells "$bin/sg comes before $folder/bin/sg" env PATH="$bin:$PATH" HOME="$made/home" bin/install
-    holds 'this one comes first' fails tells 'PATH' env PATH="$folder/bin:$PATH" HOME="$made/home" bin/install
+    holds 'another sg comes first' tells "put $folder/bin first in PATH: a shell that is told sg finds $bin/sg now" env PATH="$bin:$PATH" HOME="$made/home" bin/install
+    holds 'this one comes first' fails tells 'first in PATH' env PATH="$folder/bin:$PATH" HOME="$made/home" bin/install
     holds 'removing beside others' env HOME="$made/home" bin/install --remove
     holds 'files of others are left' prints "$folder/bin/other\n" find "$folder" -type f
     echo theirs >"$folder/bin/sg"

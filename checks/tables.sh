@@ -6,7 +6,7 @@
 #     bash checks/tables.sh [PROGRAM]
 #
 # Each failure prints one line. The last line is `tables: N passed, M failed`; the status is 0 only where M is 0.
-set -uf
+set -uf -o pipefail
 cd "$(dirname "${BASH_SOURCE[0]}")/.." || exit 1
 exec </dev/null
 sg=${1:-crates/sg/out/sg}
