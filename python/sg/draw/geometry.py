@@ -1,6 +1,6 @@
 """Where the symmetry elements of a space group lie, and what they are called (ITA 1.2.3, 2.1.2), in exact fractions.
 
-All of this is said of a turned group (`projection.turned`): the paper is the plane of the first two coordinates, down and
+All of this is said of a turned group (`paper.turned`): the paper is the plane of the first two coordinates, down and
 right, and the third is the height. An element is upright where it is parallel to the direction of projection, and flat where it
 is at right angles to that. Other elements are inclined; their kinds are listed, and they are not located.
 
@@ -18,7 +18,7 @@ from fractions import Fraction
 from itertools import product as choices
 from math import gcd
 
-from .answers import Group, Matrix, Operation, Vector, product, times
+from .answers import Matrix, Operation, SpaceGroup, Vector, product, times
 
 Pair = tuple[Fraction, Fraction]
 
@@ -110,7 +110,7 @@ class Elements:
     inclined: tuple[str, ...]  # the kinds of operations whose elements are inclined
 
 
-def elements(group: Group) -> Elements:
+def elements(group: SpaceGroup) -> Elements:
     """The elements of a turned group."""
     period = least_translation(group, _UP)
     points, lines, inclined = defaultdict(list), defaultdict(list), set()
@@ -184,13 +184,13 @@ def located(operation: Operation) -> Iterator[tuple[Vector, Vector]]:
             yield point, intrinsic
 
 
-def least_translation(group: Group, direction: Sequence[int]) -> Fraction:
+def least_translation(group: SpaceGroup, direction: Sequence[int]) -> Fraction:
     """The least multiple of the direction that is a translation of the lattice. Its numbers have no common divisor."""
     centrings = group.centrings
     return Fraction(1, next(n for n in range(_FINEST, 0, -1) if tuple(Fraction(d, n) % 1 for d in direction) in centrings))
 
 
-def _screw(group: Group, operation: Operation, axis: Sequence[int], intrinsic: Vector) -> Fraction:
+def _screw(group: SpaceGroup, operation: Operation, axis: Sequence[int], intrinsic: Vector) -> Fraction:
     """The screw part in least translations along the axis, for the turn that is counter-clockwise when seen against it."""
     at = next(i for i in range(3) if axis[i] != 0)
     screw = intrinsic[at] / axis[at] / least_translation(group, axis)
@@ -213,7 +213,7 @@ def _axis_symbol(found: Iterable[tuple[str, Fraction, Fraction]]) -> str:
     name = f"{n}_{p}" if p else str(n)
     if (n == 2 and "-4" in screws) or (n == 3 and "-6" in screws):
         return f"-{2 * n}"
-    if "-1" in screws:
+    if "-1" in screws or (n == 3 and "-3" in screws):
         return {1: "-1", 3: "-3"}.get(n, name + "/m")
     return name
 
@@ -278,7 +278,7 @@ def _glides(lattice: set[Pair], part: Pair, cells: int) -> tuple[Glide, list[Pai
     return Glide.DIAGONAL if apart else Glide.QUARTER, found
 
 
-def _upright_plane(group: Group, operation: Operation, point: Vector, intrinsic: Vector) -> UprightPlane:
+def _upright_plane(group: SpaceGroup, operation: Operation, point: Vector, intrinsic: Vector) -> UprightPlane:
     (a, b, _), (c, d, _), _ = operation.map.matrix
     across = (a - 1, b) if (a, b) != (1, 0) else (c, d - 1)
     line, _ = _line_through((-across[1], across[0]), point)
@@ -292,7 +292,7 @@ def _upright_plane(group: Group, operation: Operation, point: Vector, intrinsic:
     return UprightPlane(line, glide, 1 if along < Fraction(1, 2) else -1)
 
 
-def _flat_plane(group: Group, operation: Operation, point: Vector, intrinsic: Vector) -> FlatPlane:
+def _flat_plane(group: SpaceGroup, operation: Operation, point: Vector, intrinsic: Vector) -> FlatPlane:
     # A vector of the plane is fixed by W: its height is half of tilt . (down, right).
     tilt, period = operation.map.matrix[2][:2], least_translation(group, _UP)
     lattice = set()
