@@ -18,7 +18,7 @@ from fractions import Fraction
 from itertools import product as choices
 from math import gcd
 
-from .answers import Matrix, Operation, SpaceGroup, Vector, product, times
+from .answers import Matrix, Operation, SpaceGroup, Vector, times
 
 Pair = tuple[Fraction, Fraction]
 
@@ -118,8 +118,8 @@ def elements(group: SpaceGroup) -> Elements:
     for operation in group.operations:
         if operation.kind == "1":
             continue
-        up = times(_mean_rotation(operation), _UP)
-        upright = operation.kind == "-1" or up == _UP
+        up = [row[2] for row in _onto_axis(operation)]
+        upright = operation.kind == "-1" or not any(up[:2]) and up[2] != 0
         if not upright and any(up):
             inclined.add(operation.kind)
             continue
@@ -147,20 +147,22 @@ def elements(group: SpaceGroup) -> Elements:
 
 # ---- one operation
 
-def _weighted_powers(matrix: Matrix, weights: Sequence[Fraction]) -> Matrix:
-    """The sum of the powers of the matrix from the power 0 on, each with its weight."""
-    power = tuple(tuple(Fraction(i == j) for j in range(3)) for i in range(3))
-    total = [[Fraction(0)] * 3 for _ in range(3)]
+def _weighted_powers(matrix: Matrix, weights: Sequence[int]) -> list[list[int]]:
+    """The sum of the powers of the matrix, of whole numbers, from the power 0 on, each with its weight."""
+    power = [[int(i == j) for j in range(3)] for i in range(3)]
+    total = [[0] * 3 for _ in range(3)]
     for weight in weights:
         total = [[t + weight * p for t, p in zip(row, powers)] for row, powers in zip(total, power)]
-        power = product(matrix, power)
-    return tuple(map(tuple, total))
+        power = [[sum(int(m) * row[j] for m, row in zip(left, power)) for j in range(3)] for left in matrix]
+    return total
 
 
-def _mean_rotation(operation: Operation) -> Matrix:
-    """The projection onto the axis of the operation's proper part, at right angles to it in any metric that the group keeps."""
-    n, sign = operation.rotation_order, -1 if operation.improper else 1
-    return _weighted_powers(tuple(tuple(sign * e for e in row) for row in operation.map.matrix), [Fraction(1, n)] * n)
+def _onto_axis(operation: Operation) -> list[list[int]]:
+    """A multiple of the projection onto the axis of the operation's proper part, at right angles to it in any metric that the
+    group keeps."""
+    sign = -1 if operation.improper else 1
+    proper = tuple(tuple(sign * e for e in row) for row in operation.map.matrix)
+    return _weighted_powers(proper, [1] * operation.rotation_order)
 
 
 def located(operation: Operation) -> Iterator[tuple[Vector, Vector]]:
@@ -172,16 +174,18 @@ def located(operation: Operation) -> Iterator[tuple[Vector, Vector]]:
     moves along the element, and so moves the point by whole cells; so shifts from 0 to k - 1 suffice.
     """
     k = operation.order
-    along = _weighted_powers(operation.map.matrix, [Fraction(1, k)] * k)
-    centre = _weighted_powers(operation.map.matrix, [Fraction(k - 1 - i, k) for i in range(k)])
+    unit, cell = _FINEST * k, _FINEST * k * k  # intrinsic parts are counted in 1 / unit, points in 1 / cell
+    along = _weighted_powers(operation.map.matrix, [1] * k)
+    centre = _weighted_powers(operation.map.matrix, [k - 1 - i for i in range(k)])
+    translation, own = ([int(unit * c) for c in vector] for vector in (operation.map.shift, operation.intrinsic))
     met = set()
     for shift in choices(range(k), repeat=3):
-        intrinsic = tuple(i + a for i, a in zip(operation.intrinsic, times(along, shift)))
-        rest = [t + n - i for t, n, i in zip(operation.map.shift, shift, intrinsic)]
-        point = tuple(c % 1 for c in times(centre, rest))
+        intrinsic = [i + _FINEST * sum(a * n for a, n in zip(row, shift)) for i, row in zip(own, along)]
+        rest = [t + unit * n - i for t, n, i in zip(translation, shift, intrinsic)]
+        point = tuple(sum(c * r for c, r in zip(row, rest)) % cell for row in centre)
         if point not in met:
             met.add(point)
-            yield point, intrinsic
+            yield tuple(Fraction(c, cell) for c in point), tuple(Fraction(i, unit) for i in intrinsic)
 
 
 def least_translation(group: SpaceGroup, direction: Sequence[int]) -> Fraction:

@@ -36,9 +36,14 @@ def _order(axis: str) -> tuple[int, int, int]:
 
 
 def main_axis(group: SpaceGroup) -> str:
-    """The axis of the cell that the symmetry axes of most operations are parallel to, planes told by their normals; c before b
+    """The axis of the cell that the symmetry axes of most operations are parallel to, a plane's being its normal; c before b
     before a."""
-    return max("cba", key=lambda axis: sum(o.axis is not None and [n != 0 for n in o.axis] == [x == axis for x in "abc"] for o in group.operations))
+
+    def parallel(axis: str) -> int:
+        along = [name == axis for name in "abc"]
+        return sum(o.axis is not None and [n != 0 for n in o.axis] == along for o in group.operations)
+
+    return max("cba", key=parallel)
 
 
 def turned_map(map: Affine, axis: str) -> Affine:

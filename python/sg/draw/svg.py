@@ -18,7 +18,7 @@ from .paper import Projection, clear_point, projection, turned
 CELL = 260.0  # the longer axis of a drawn cell
 WIDE_CELL = 520.0  # that of a crowded one
 CROWDED = 40  # so many points at different places of the paper are not yet a crowd
-APART = 34.0  # how far apart points are wished to be
+APART = 40.0  # how far apart points are wished to be
 BEYOND = 34.0  # how far beyond the cell points are shown
 STRIP = 26.0  # the height of the strip for planes in the paper
 
@@ -299,4 +299,4 @@ def draw_positions(group: SpaceGroup, rows: Iterable[int] | None, axis: str) -> 
             text = f'<tspan font-weight="bold">{row}</tspan> {heights}'
             drawn.append(symbols.text(left, base + 8.5 * 1.15 * line, text, 8.5, anchor))
     names = ", ".join(map(str, sorted(chosen)))
-    return Drawing(f"Points of rows {names} along {axis}", paper, "".join(drawn), 30.0)
+    return Drawing(f"Points of rows {names} along {axis}", paper, "".join(drawn), 40.0)
