@@ -7,12 +7,12 @@ a, b, c points down, and the next one to the right; so along c it is a down and 
 from __future__ import annotations
 
 from collections.abc import Iterable, Sequence
-from dataclasses import dataclass
+from dataclasses import dataclass, replace
 from fractions import Fraction
 from itertools import product as choices
 from math import hypot, inf, sqrt
 
-from .answers import Affine, Group, Matrix, Operation, Row, Vector
+from .answers import Affine, Matrix, SpaceGroup, Vector
 
 # Lengths 20, 23 and 26 with angles of 100 degrees: what the lattice leaves free is drawn so.
 _FREE = ((400, -80, -90), (-80, 529, -104), (-90, -104, 676))
@@ -35,22 +35,34 @@ def _order(axis: str) -> tuple[int, int, int]:
     return (at + 1) % 3, (at + 2) % 3, at
 
 
+def main_axis(group: SpaceGroup) -> str:
+    """The axis of the cell that the symmetry axes of most operations are parallel to, a plane's being its normal; c before b
+    before a."""
+
+    def parallel(axis: str) -> int:
+        along = [name == axis for name in "abc"]
+        return sum(o.axis is not None and [n != 0 for n in o.axis] == along for o in group.operations)
+
+    return max("cba", key=parallel)
+
+
 def turned_map(map: Affine, axis: str) -> Affine:
     order = _order(axis)
     return Affine(tuple(tuple(map.matrix[i][j] for j in order) for i in order), tuple(map.shift[i] for i in order))
 
 
-def turned(group: Group, axis: str) -> Group:
+def turned(group: SpaceGroup, axis: str) -> SpaceGroup:
     """The group with its coordinates in the order down, right, up: projected along `axis`, the third one is the height."""
 
     def turn(vector: Vector) -> Vector:
         return tuple(vector[i] for i in _order(axis))
 
-    return Group(
+    return SpaceGroup(
         tuple(
-            Operation(turned_map(o.map, axis), o.kind, turn(o.intrinsic), o.axis and turn(o.axis)) for o in group.operations
+            replace(o, map=turned_map(o.map, axis), intrinsic=turn(o.intrinsic), axis=o.axis and turn(o.axis))
+            for o in group.operations
         ),
-        tuple(Row(row.place, row.multiplicity, row.text, turned_map(row.map, axis)) for row in group.rows),
+        tuple(replace(row, form=turned_map(row.form, axis)) for row in group.rows),
     )
 
 
@@ -74,7 +86,7 @@ class Projection:
         return min(xs), min(ys), max(xs), max(ys)
 
 
-def projection(group: Group, axis: str, size: float) -> Projection:
+def projection(group: SpaceGroup, axis: str, size: float) -> Projection:
     """The projection of `group`, as it stands before it is turned; `size` is the longer axis of the paper, in pixels.
 
     The axes of the paper are projected at right angles to the axis of projection. One that is oblique to it comes out
@@ -94,7 +106,8 @@ def projection(group: Group, axis: str, size: float) -> Projection:
 def clear_point(maps: Sequence[Affine], paper: Projection, wanted: float) -> tuple[Vector, float]:
     """A point with an image for each of the turned maps, which lie well apart on the paper; and how far apart, in pixels.
 
-    It is the one nearest to the origin where that is as `wanted`, or else the one where it is most.
+    It is the one nearest to the origin where that is as `wanted`, or else the one where it is most. From the sides of the cell the
+    images keep a quarter of that.
     """
     mixing = any(m.matrix[2][0] or m.matrix[2][1] or m.matrix[0][2] or m.matrix[1][2] for m in maps)
     images = {_numbers(m) for m in maps}
@@ -104,7 +117,10 @@ def clear_point(maps: Sequence[Affine], paper: Projection, wanted: float) -> tup
     heights = steps if mixing else [Fraction(5, _STEPS)]
     best, distance = (steps[0], steps[1], steps[2]), -1.0
     for point in sorted(choices(steps, steps, heights), key=lambda p: (hypot(*paper.place(p[0], p[1])), p[2])):
-        least = min(_nearest(start, images, point, paper, distance) for start in starts)
+        numbers = tuple(map(float, point))
+        least = min(_nearest(start, images, numbers, paper, distance) for start in starts)
+        if least > distance:
+            least = min(least, *(4 * _to_sides(_at(image, numbers), paper) for image in images))
         if least > distance and len({tuple(c % 1 for c in map(point)) for map in maps}) == len(maps):
             best, distance = point, least
             if least >= wanted:
@@ -120,17 +136,17 @@ def _numbers(map: Affine) -> _Numbers:
     return tuple(float(entry) for row, shift in zip(map.matrix[:2], map.shift) for entry in (*row, shift))
 
 
-def _nearest(start: _Numbers, images: set[_Numbers], point: Sequence[float], paper: Projection, enough: float) -> float:
+def _at(m: _Numbers, point: _Numbers) -> tuple[float, float]:
+    x, y, z = point
+    return m[0] * x + m[1] * y + m[2] * z + m[3], m[4] * x + m[5] * y + m[6] * z + m[7]
+
+
+def _nearest(start: _Numbers, images: set[_Numbers], point: _Numbers, paper: Projection, enough: float) -> float:
     """The least distance on paper between the image by `start` and those by the others, or else a value up to `enough` that it
     does not exceed."""
-    x, y, z = map(float, point)
-
-    def at(m: _Numbers) -> tuple[float, float]:
-        return m[0] * x + m[1] * y + m[2] * z + m[3], m[4] * x + m[5] * y + m[6] * z + m[7]
-
-    (u, v), least = at(start), inf
+    (u, v), least = _at(start, point), inf
     for image in images - {start}:
-        s, t = at(image)
+        s, t = _at(image, point)
         du, dv = (s - u) % 1.0, (t - v) % 1.0
         for p, q in ((du, dv), (du - 1, dv), (du, dv - 1), (du - 1, dv - 1)):
             right, down = paper.place(p, q)
@@ -138,3 +154,10 @@ def _nearest(start: _Numbers, images: set[_Numbers], point: Sequence[float], pap
         if least <= enough:
             break
     return least
+
+
+def _to_sides(place: tuple[float, float], paper: Projection) -> float:
+    """How far a place of the paper is from the nearest side of a cell."""
+    area = abs(paper.down[0] * paper.right[1] - paper.down[1] * paper.right[0])
+    sides = zip(place, (hypot(*paper.right), hypot(*paper.down)))
+    return min(min(c % 1.0, -c % 1.0) * area / side for c, side in sides)

@@ -1,6 +1,6 @@
 """Where the symmetry elements of a space group lie, and what they are called (ITA 1.2.3, 2.1.2), in exact fractions.
 
-All of this is said of a turned group (`projection.turned`): the paper is the plane of the first two coordinates, down and
+All of this is said of a turned group (`paper.turned`): the paper is the plane of the first two coordinates, down and
 right, and the third is the height. An element is upright where it is parallel to the direction of projection, and flat where it
 is at right angles to that. Other elements are inclined; their kinds are listed, and they are not located.
 
@@ -18,7 +18,7 @@ from fractions import Fraction
 from itertools import product as choices
 from math import gcd
 
-from .answers import Group, Matrix, Operation, Vector, product, times
+from .answers import Matrix, Operation, SpaceGroup, Vector, times
 
 Pair = tuple[Fraction, Fraction]
 
@@ -110,7 +110,7 @@ class Elements:
     inclined: tuple[str, ...]  # the kinds of operations whose elements are inclined
 
 
-def elements(group: Group) -> Elements:
+def elements(group: SpaceGroup) -> Elements:
     """The elements of a turned group."""
     period = least_translation(group, _UP)
     points, lines, inclined = defaultdict(list), defaultdict(list), set()
@@ -118,8 +118,8 @@ def elements(group: Group) -> Elements:
     for operation in group.operations:
         if operation.kind == "1":
             continue
-        up = times(_mean_rotation(operation), _UP)
-        upright = operation.kind == "-1" or up == _UP
+        up = [row[2] for row in _onto_axis(operation)]
+        upright = operation.kind == "-1" or not any(up[:2]) and up[2] != 0
         if not upright and any(up):
             inclined.add(operation.kind)
             continue
@@ -147,20 +147,22 @@ def elements(group: Group) -> Elements:
 
 # ---- one operation
 
-def _weighted_powers(matrix: Matrix, weights: Sequence[Fraction]) -> Matrix:
-    """The sum of the powers of the matrix from the power 0 on, each with its weight."""
-    power = tuple(tuple(Fraction(i == j) for j in range(3)) for i in range(3))
-    total = [[Fraction(0)] * 3 for _ in range(3)]
+def _weighted_powers(matrix: Matrix, weights: Sequence[int]) -> list[list[int]]:
+    """The sum of the powers of the matrix, of whole numbers, from the power 0 on, each with its weight."""
+    power = [[int(i == j) for j in range(3)] for i in range(3)]
+    total = [[0] * 3 for _ in range(3)]
     for weight in weights:
         total = [[t + weight * p for t, p in zip(row, powers)] for row, powers in zip(total, power)]
-        power = product(matrix, power)
-    return tuple(map(tuple, total))
+        power = [[sum(int(m) * row[j] for m, row in zip(left, power)) for j in range(3)] for left in matrix]
+    return total
 
 
-def _mean_rotation(operation: Operation) -> Matrix:
-    """The projection onto the axis of the operation's proper part, at right angles to it in any metric that the group keeps."""
-    n, sign = operation.rotation_order, -1 if operation.improper else 1
-    return _weighted_powers(tuple(tuple(sign * e for e in row) for row in operation.map.matrix), [Fraction(1, n)] * n)
+def _onto_axis(operation: Operation) -> list[list[int]]:
+    """A multiple of the projection onto the axis of the operation's proper part, at right angles to it in any metric that the
+    group keeps."""
+    sign = -1 if operation.improper else 1
+    proper = tuple(tuple(sign * e for e in row) for row in operation.map.matrix)
+    return _weighted_powers(proper, [1] * operation.rotation_order)
 
 
 def located(operation: Operation) -> Iterator[tuple[Vector, Vector]]:
@@ -172,25 +174,27 @@ def located(operation: Operation) -> Iterator[tuple[Vector, Vector]]:
     moves along the element, and so moves the point by whole cells; so shifts from 0 to k - 1 suffice.
     """
     k = operation.order
-    along = _weighted_powers(operation.map.matrix, [Fraction(1, k)] * k)
-    centre = _weighted_powers(operation.map.matrix, [Fraction(k - 1 - i, k) for i in range(k)])
+    unit, cell = _FINEST * k, _FINEST * k * k  # intrinsic parts are counted in 1 / unit, points in 1 / cell
+    along = _weighted_powers(operation.map.matrix, [1] * k)
+    centre = _weighted_powers(operation.map.matrix, [k - 1 - i for i in range(k)])
+    translation, own = ([int(unit * c) for c in vector] for vector in (operation.map.shift, operation.intrinsic))
     met = set()
     for shift in choices(range(k), repeat=3):
-        intrinsic = tuple(i + a for i, a in zip(operation.intrinsic, times(along, shift)))
-        rest = [t + n - i for t, n, i in zip(operation.map.shift, shift, intrinsic)]
-        point = tuple(c % 1 for c in times(centre, rest))
+        intrinsic = [i + _FINEST * sum(a * n for a, n in zip(row, shift)) for i, row in zip(own, along)]
+        rest = [t + unit * n - i for t, n, i in zip(translation, shift, intrinsic)]
+        point = tuple(sum(c * r for c, r in zip(row, rest)) % cell for row in centre)
         if point not in met:
             met.add(point)
-            yield point, intrinsic
+            yield tuple(Fraction(c, cell) for c in point), tuple(Fraction(i, unit) for i in intrinsic)
 
 
-def least_translation(group: Group, direction: Sequence[int]) -> Fraction:
+def least_translation(group: SpaceGroup, direction: Sequence[int]) -> Fraction:
     """The least multiple of the direction that is a translation of the lattice. Its numbers have no common divisor."""
     centrings = group.centrings
     return Fraction(1, next(n for n in range(_FINEST, 0, -1) if tuple(Fraction(d, n) % 1 for d in direction) in centrings))
 
 
-def _screw(group: Group, operation: Operation, axis: Sequence[int], intrinsic: Vector) -> Fraction:
+def _screw(group: SpaceGroup, operation: Operation, axis: Sequence[int], intrinsic: Vector) -> Fraction:
     """The screw part in least translations along the axis, for the turn that is counter-clockwise when seen against it."""
     at = next(i for i in range(3) if axis[i] != 0)
     screw = intrinsic[at] / axis[at] / least_translation(group, axis)
@@ -213,7 +217,7 @@ def _axis_symbol(found: Iterable[tuple[str, Fraction, Fraction]]) -> str:
     name = f"{n}_{p}" if p else str(n)
     if (n == 2 and "-4" in screws) or (n == 3 and "-6" in screws):
         return f"-{2 * n}"
-    if "-1" in screws:
+    if "-1" in screws or (n == 3 and "-3" in screws):
         return {1: "-1", 3: "-3"}.get(n, name + "/m")
     return name
 
@@ -278,7 +282,7 @@ def _glides(lattice: set[Pair], part: Pair, cells: int) -> tuple[Glide, list[Pai
     return Glide.DIAGONAL if apart else Glide.QUARTER, found
 
 
-def _upright_plane(group: Group, operation: Operation, point: Vector, intrinsic: Vector) -> UprightPlane:
+def _upright_plane(group: SpaceGroup, operation: Operation, point: Vector, intrinsic: Vector) -> UprightPlane:
     (a, b, _), (c, d, _), _ = operation.map.matrix
     across = (a - 1, b) if (a, b) != (1, 0) else (c, d - 1)
     line, _ = _line_through((-across[1], across[0]), point)
@@ -292,7 +296,7 @@ def _upright_plane(group: Group, operation: Operation, point: Vector, intrinsic:
     return UprightPlane(line, glide, 1 if along < Fraction(1, 2) else -1)
 
 
-def _flat_plane(group: Group, operation: Operation, point: Vector, intrinsic: Vector) -> FlatPlane:
+def _flat_plane(group: SpaceGroup, operation: Operation, point: Vector, intrinsic: Vector) -> FlatPlane:
     # A vector of the plane is fixed by W: its height is half of tilt . (down, right).
     tilt, period = operation.map.matrix[2][:2], least_translation(group, _UP)
     lattice = set()

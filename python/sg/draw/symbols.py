@@ -9,7 +9,7 @@ from __future__ import annotations
 from fractions import Fraction
 from math import cos, gcd, hypot, pi, sin
 
-from .elements import Glide
+from .geometry import Glide
 
 Way = tuple[float, float]
 
@@ -129,6 +129,11 @@ def _twofold_tails(x: float, y: float, half: float) -> str:
     return drawn
 
 
+def reach(symbol: str) -> float:
+    """How far the symbol of an upright axis reaches from its middle, but for the tails of screws."""
+    return 0.42 * SIZE if symbol == "-1" else 0.8 * SIZE if symbol.startswith("2") else 1.05 * SIZE
+
+
 def axis(symbol: str, x: float, y: float, size: float = SIZE) -> str:
     """The symbol of an upright axis, or of an inversion point."""
     if symbol == "-1":
@@ -165,16 +170,17 @@ def arrow(start: Way, way: Way, length: float, half: bool = False, size: float =
     return drawn if half else drawn + _barb(tip, way, -1, size)
 
 
-def flat_axis(symbol: str, start: Way, way: Way, label: str = "") -> str:
-    """The end of an axis in the paper, with the label beyond it: an arrow for 2, half of one for 2_1, else a stub with the
-    symbol of the upright axis."""
+def flat_length(symbol: str) -> float:
+    """How long the symbol of an axis in the paper is."""
+    return 15.0 if symbol in ("2", "2_1") else 20.0 if "_" in symbol else 15.5
+
+
+def flat_axis(symbol: str, start: Way, way: Way) -> str:
+    """The end of an axis in the paper: an arrow for 2, half of one for 2_1, else a stub with the symbol of the upright axis."""
     (x, y), (dx, dy) = start, way
     if symbol in ("2", "2_1"):
-        drawn = arrow(start, way, 15.0, half=symbol == "2_1")
-    else:
-        drawn = segment(start, (x + 9 * dx, y + 9 * dy), 1.0) + axis(symbol, x + 10 * dx, y + 10 * dy, size=4.6)
-    gap = 18 + (3 + 5 * len(label)) / 2
-    return drawn + text(x + gap * dx, y + 21 * dy + 3.5, label, 10, "middle")
+        return arrow(start, way, flat_length(symbol), half=symbol == "2_1")
+    return segment(start, (x + 9 * dx, y + 9 * dy), 1.0) + axis(symbol, x + 10 * dx, y + 10 * dy, size=4.6)
 
 
 def plane_line(start: Way, end: Way, glide: Glide, way: int = 0) -> str:
