@@ -4,6 +4,7 @@ pub mod Coordinates
 pub mod Images
 pub mod OrbitLaws
 pub mod Tags
+pub mod AxisSteps
 pub mod Stored
 pub mod Whole
 pub mod FirstPoints

@@ -1,15 +1,14 @@
 -- What the machine computes of grids.
-use Rattle.std.proofs.Common.{◌≡◌, ℕ, ◌+◌, ◌*◌, ◌-◌, ◌/◌, ◌%◌, ◌^◌, ◌<◌, ◌≤◌, ◌↔◌, eqb, ltb, List, [], ◌∷◌, get_or, take, slice_get, Some, ◌++◌, ⊎_elim, Contains, T, ℤ, pos, negsuc, ◌*ℤ◌, unsigned_abs, w32, FitsSigned, to_z, of_z, IsTrue, ap, ap₂, sym, ◌∙◌, subst, refl, arith, mul-le-mul_right}
+use Rattle.std.proofs.Common.{◌≡◌, ℕ, ◌+◌, ◌*◌, ◌-◌, ◌/◌, ◌%◌, ◌^◌, ◌≤◌, ◌↔◌, eqb, ltb, List, [], ◌∷◌, get_or, take, slice_get, Some, ◌++◌, ⊎_elim, Contains, T, ℤ, pos, ◌*ℤ◌, unsigned_abs, w32, FitsSigned, to_z, of_z, IsTrue, ap, ap₂, sym, ◌∙◌, subst, arith}
 use Rattle.std.specs.Int.RustNames.{int_rem}
-use Rattle.std.proofs.Math.Nat.{mod-eq_of_lt, mod-eq-sub-mod}
 use Rattle.std.proofs.lemmas.Bool.Decides.{Decides-eqb}
 use Rattle.std.proofs.lemmas.Int.{ints, rem_is, to_z-of_z}
 use Rattle.std.proofs.lemmas.List.{take_more}
 use Rattle.std.proofs.lemmas.Option.{get_or_from_slice_get, slice_get_within}
 use Rattle.std.proofs.lemmas.List.Elements.{Contains-append_cases}
 use Rattle.finite_groups.proofs.Members as lists
-use Rattle.lattice_algebra.specs.Matrix.{entries, coordinates, matrix_of, column_of}
-use Rattle.lattice_algebra.specs.Operator.{Operator, IsPart, AreParts, HasEntriesWithin}
+use Rattle.lattice_algebra.specs.Matrix.{entries, coordinates, matrix_of}
+use Rattle.lattice_algebra.specs.Operator.{Operator, HasEntriesWithin}
 use Rattle.lattice_algebra.proofs.Ring.{var, ◌⊗◌}
 use Rattle.lattice_algebra.proofs.Machine.{IsWithin, back, kept, fits, exact}
 use Rattle.lattice_algebra.proofs.Quotients.{rem_of_multiple, multiple_of_quotient}
@@ -19,7 +18,7 @@ use Rattle.exact_ops.proofs.Narrow.{AreWithin-parts}
 use Rattle.grid_tags.specs.declared.TheConstants.{MAX_SIDE}
 use Rattle.grid_tags.specs.declared.ratios.Ratios.{Ratios}
 use Rattle.grid_tags.specs.Grids.{Grid, Triple, IsSide, IsKept, IsKeptBy, place_of}
-use Rattle.grid_tags.specs.Steps.{IsWhole, IsAxisKept, turned, turned_coordinate, moved, moved_coordinate, ratios_of}
+use Rattle.grid_tags.specs.Steps.{IsWhole, IsAxisKept, turned, turned_coordinate, ratios_of}
 use Rattle.tag_walks.proofs.Digits.{place_back}
 
 side_fits : (m : ℕ) (b : ℤ) → m ≤ MAX_SIDE → b ≡ pos m → FitsSigned w32 b
@@ -146,21 +145,6 @@ turned_read s v r w p i j k e q n a b c =
       k = (c ∙ (λ g. turned_coordinate (zz g) (zx g) (zy g) (e g).c (q g).ca (q g).cb p.k p.i p.j)) h;
     }
 
-pub moved_read : (s v : Grid) (t : List ℤ) (p : Triple) (i j k : ℕ) → v ≡ s → AreParts UNIT (column_of t)
-    → i ≡ moved_coordinate p.i (back w32 (get_or t 0 (pos 0))) v.a → j ≡ moved_coordinate p.j (back w32 (get_or t 1 (pos 0))) v.b → k ≡ moved_coordinate p.k (back w32 (get_or t 2 (pos 0))) v.c
-    → record { i = i; j = j; k = k } ≡ moved s p (column_of t)
-unfolding moved
-moved_read s v t p i j k e parts a b c =
-    let n = AreWithin-parts (column_of t) parts in
-    let x : back w32 (get_or t 0 (pos 0)) ≡ get_or t 0 (pos 0) = kept w32 (UNIT - 1) (get_or t 0 (pos 0)) n.first tt in
-    let y : back w32 (get_or t 1 (pos 0)) ≡ get_or t 1 (pos 0) = kept w32 (UNIT - 1) (get_or t 1 (pos 0)) n.second tt in
-    let z : back w32 (get_or t 2 (pos 0)) ≡ get_or t 2 (pos 0) = kept w32 (UNIT - 1) (get_or t 2 (pos 0)) n.third tt in
-    λ h. record {
-      i = (a ∙ (λ g. moved_coordinate p.i (x g) (e g).a)) h;
-      j = (b ∙ (λ g. moved_coordinate p.j (y g) (e g).b)) h;
-      k = (c ∙ (λ g. moved_coordinate p.k (z g) (e g).c)) h;
-    }
-
 -- ---- places
 
 pub stored_place : (s v : Grid) (p : Triple) (i b j c k : ℕ) → v ≡ s → i ≡ p.i → b ≡ v.b → j ≡ p.j → c ≡ v.c → k ≡ p.k → (i * b + j) * c + k ≡ place_of s p
@@ -179,28 +163,3 @@ pub kept_more : (members : List Operator) (s : Grid) (i : ℕ) (f : Operator) �
 kept_more members s i f e k h g c =
     let more : take (i + 1) members ≡ take i members ++ f ∷ [] = take_more members i f (slice_get_within members i f e) ∙ ap (λ (x : Operator). take i members ++ x ∷ []) (get_or_from_slice_get members i f f e) in
     ⊎_elim (λ d. k g d) (λ d. ⊎_elim (λ u. subst (IsKeptBy s) u h) (λ n. lists.not_in_nil g n) (lists.Contains-cases g f [] d)) (Contains-append_cases (take i members) (f ∷ []) g (subst (λ xs. Contains xs g) more c))
-
--- ---- translations
-
-shift_below : (k n : ℕ) → k < UNIT → k * n / UNIT ≤ n
-shift_below k n l = let a : k * n ≤ UNIT * n = mul-le-mul_right n (omega (arith, l)) in omega (arith, a)
-
-whole : (t : ℤ) → IsPart UNIT t → (t ≡ pos (unsigned_abs t)) × (unsigned_abs t < UNIT)
-whole (pos k) p = (refl, omega (arith, ints, p))
-whole (negsuc k) p = absurd (omega (arith, ints, p))
-
--- the sum that the machine makes, where it stays below n and where it does not
-pub moved_below : (i n a b d : ℕ) (t : ℤ) → FitsSigned w32 t → IsPart UNIT t → a ≡ i → b ≡ n → d ≡ n → a + unsigned_abs (back w32 t) * b / UNIT < d → a + unsigned_abs (back w32 t) * b / UNIT ≡ moved_coordinate i t n
-moved_below i n a b d t f p e g h l =
-    let w = whole t p in
-    let same : a + unsigned_abs (back w32 t) * b / UNIT ≡ i + unsigned_abs t * n / UNIT = λ v. e v + unsigned_abs (to_z-of_z w32 t f v) * g v / UNIT in
-    same ∙ sym (mod-eq_of_lt (omega (arith, same, l, h))) ∙ ap (λ z. moved_coordinate i z n) (sym w.0)
-
-pub moved_above : (i n a b d d2 : ℕ) (t : ℤ) → FitsSigned w32 t → IsPart UNIT t → i < n → a ≡ i → b ≡ n → d ≡ n → d2 ≡ n → d ≤ a + unsigned_abs (back w32 t) * b / UNIT → a + unsigned_abs (back w32 t) * b / UNIT - d2 ≡ moved_coordinate i t n
-moved_above i n a b d d2 t f p m e g h k l =
-    let w = whole t p in
-    let same : a + unsigned_abs (back w32 t) * b / UNIT ≡ i + unsigned_abs t * n / UNIT = λ v. e v + unsigned_abs (to_z-of_z w32 t f v) * g v / UNIT in
-    let s = shift_below (unsigned_abs t) n w.1 in
-    let rest : i + unsigned_abs t * n / UNIT - n < n = omega (arith, s, m) in
-    let over : n ≤ i + unsigned_abs t * n / UNIT = omega (arith, same, l, h) in
-    (λ v. same v - k v) ∙ sym (mod-eq_of_lt rest) ∙ sym (mod-eq-sub-mod over) ∙ ap (λ z. moved_coordinate i z n) (sym w.0)

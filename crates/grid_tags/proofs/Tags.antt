@@ -128,8 +128,8 @@ module _ (members : List Operator) (s : Grid) (p : Triple) where
   count_room i start n l q = let c = count_few i in omega (arith, c, l, q)
 
 -- what a rotation part and then a translation part make of a point
-pub image_is : (s : Grid) (f : Operator) (p image there : Triple) (t : List ℤ) → there ≡ moved s image (column_of t) → t ≡ coordinates f.t → image ≡ turned s f.w p → there ≡ act s f p
-image_is s f p image there t a b c = a ∙ (λ h. moved s (c h) (column_of (b h)))
+pub image_is : (s : Grid) (f : Operator) (p image : Triple) (t : List ℤ) → t ≡ coordinates f.t → image ≡ turned s f.w p → moved s image (column_of t) ≡ act s f p
+image_is s f p image t b c = λ h. moved s (c h) (column_of (b h))
 
 -- what the rotation part of the first member of a run makes is what those of the others make
 pub run_image : (members : List Operator) (s : Grid) (p image : Triple) (i end : ℕ) (f : Operator) (w : List ℤ) → IsRun members i end → slice_get members i ≡ Some f → w ≡ entries f.w → image ≡ turned s (matrix_of w) p

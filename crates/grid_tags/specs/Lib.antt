@@ -2,3 +2,4 @@ pub mod Grids
 pub mod GridLists
 pub mod Walks
 pub mod Steps
+pub mod Axes

@@ -3,6 +3,7 @@ ghost use Rattle.grid_tags.specs.Grids.{IsKept, points};
 ghost use Rattle.grid_tags.specs.GridLists.{AreFirstPoints};
 ghost use Rattle.grid_tags.specs.Steps.{AreOwnPlaces};
 
+use crate::axes::Axes;
 use crate::grid_size::GridSize;
 use crate::ratios::Ratios;
 use crate::tagging::tag_orbit;
@@ -20,11 +21,12 @@ pub fn first_points(alloc: Global, group: &Group, size: &GridSize) -> Result<Vec
     let _ = group.len();
     let mut firsts = own_places(alloc, size)?;
     let ratios = Ratios::of(size);
+    let axes = Axes::of(size);
     for place in 0..size.points() {
         // Only a point with no earlier one in its orbit is still its own first.
         if firsts[place] as usize == place {
             let at = size.point_at(place);
-            tag_orbit(&mut firsts, place as u32, size, &ratios, group, &at);
+            tag_orbit(&mut firsts, place as u32, size, &ratios, &axes, group, &at);
         }
     }
     Ok(firsts)

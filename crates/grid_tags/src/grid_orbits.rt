@@ -4,6 +4,7 @@ ghost use Rattle.grid_tags.specs.Grids.{IsKept, points};
 ghost use Rattle.grid_tags.specs.GridLists.{IsGridList};
 ghost use Rattle.grid_tags.specs.Walks.{IsWalk};
 
+use crate::axes::Axes;
 use crate::grid_size::GridSize;
 use crate::keeping::accepts;
 use crate::line::GridLine;
@@ -29,6 +30,7 @@ pub enum GridFault {
 pub struct GridOrbits {
     size: GridSize,
     ratios: Ratios,
+    axes: Axes,
     place: usize,
     tags: Vec<bool>,
 }
@@ -38,13 +40,14 @@ impl Model for GridOrbits {
     ghost use Rattle.grid_tags.specs.Grids.{points};
     ghost use Rattle.grid_tags.specs.Walks.{Walk};
     ghost use Rattle.grid_tags.specs.Steps.{ratios_of};
+    ghost use Rattle.grid_tags.specs.Axes.{AreAxes};
 
     ghost Value = { Walk };
 
     ghost view = { λ o. record { size = o.size; place = o.place; tags = o.tags.items } };
 
     ghost invariant = { λ o. (length o.tags.items ≡ points o.size)
-        × (o.ratios ≡ ratios_of o.size) };
+        × (o.ratios ≡ ratios_of o.size) × AreAxes o.size o.axes };
 }
 
 impl GridOrbits {
@@ -66,6 +69,7 @@ impl GridOrbits {
         Ok(GridOrbits {
             size: *size,
             ratios: Ratios::of(size),
+            axes: Axes::of(size),
             place: 0,
             tags,
         })
@@ -89,7 +93,15 @@ impl GridOrbits {
     {
         let place = first_free(&self.tags, self.place)?;
         let at = self.size.point_at(place);
-        let fixing = tag_orbit(&mut self.tags, true, &self.size, &self.ratios, group, &at);
+        let fixing = tag_orbit(
+            &mut self.tags,
+            true,
+            &self.size,
+            &self.ratios,
+            &self.axes,
+            group,
+            &at,
+        );
         self.place = place + 1;
         Some(GridLine {
             at,

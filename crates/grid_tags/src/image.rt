@@ -1,17 +1,14 @@
-//! What an operator makes of a grid point of the cell: first its rotation part, once for all members that have it, then its
-//! translation part.
+//! What the rotation part of an operator makes of a grid point of the cell, once for all members that have it.
 ghost use Rattle.std.specs.Prelude.{◌≡◌, ◌≤◌, ◌<◌, ◌*◌, pos, ◌+ℤ◌, ◌*ℤ◌, unsigned_abs};
-ghost use Rattle.lattice_algebra.specs.Matrix.{matrix_of, column_of};
-ghost use Rattle.lattice_algebra.specs.Operator.{AreWithin, AreParts, HasEntriesWithin, IsPart};
-ghost use Rattle.exact_ops.specs.declared.TheConstants.{UNIT as PARTS};
+ghost use Rattle.lattice_algebra.specs.Matrix.{matrix_of};
+ghost use Rattle.lattice_algebra.specs.Operator.{AreWithin, HasEntriesWithin};
 ghost use Rattle.grid_tags.specs.declared.TheConstants.{MAX_SIDE};
 ghost use Rattle.grid_tags.specs.Grids.{IsInGrid, IsSide, triple_of};
-ghost use Rattle.grid_tags.specs.Steps.{ratios_of, turned, turned_coordinate, moved, moved_coordinate};
+ghost use Rattle.grid_tags.specs.Steps.{ratios_of, turned, turned_coordinate};
 
 use crate::grid_size::GridSize;
 use crate::ratios::Ratios;
 use crate::reduced::reduced;
-use exact_ops::UNIT;
 
 /// What a rotation part makes of a grid point, brought into the cell.
 pub fn turned(size: &GridSize, ratios: &Ratios, w: &[i32; 9], at: &[u16; 3]) -> [u16; 3]
@@ -27,22 +24,6 @@ pub fn turned(size: &GridSize, ratios: &Ratios, w: &[i32; 9], at: &[u16; 3]) -> 
         turned_coordinate(xx, xy, xz, size.a, ratios.ab, ratios.ac, i, j, k),
         turned_coordinate(yy, yx, yz, size.b, ratios.ba, ratios.bc, j, i, k),
         turned_coordinate(zz, zx, zy, size.c, ratios.ca, ratios.cb, k, i, j),
-    ]
-}
-
-/// What a translation part makes of a grid point of the cell, brought into the cell.
-pub fn moved(size: &GridSize, at: &[u16; 3], t: &[i32; 3]) -> [u16; 3]
-    requires parts { AreParts PARTS (column_of t.now) }
-    requires within { IsInGrid size.now (triple_of at.now) }
-    ensures value { triple_of result ≡ moved size.now (triple_of at.now) (column_of t.now) }
-    ensures within { IsInGrid size.now (triple_of result) }
-{
-    let [x, y, z] = *t;
-    let [i, j, k] = *at;
-    [
-        moved_coordinate(i, x, size.a),
-        moved_coordinate(j, y, size.b),
-        moved_coordinate(k, z, size.c),
     ]
 }
 
@@ -86,20 +67,4 @@ fn sum(w: i32, u: i32, v: i32, x: i32, y: i32, z: i32) -> i32
     ensures size { unsigned_abs result ≤ 12 * MAX_SIDE * MAX_SIDE }
 {
     w * x + u * y + v * z
-}
-
-/// The coordinate, along an axis with n points, after t parts of a cell.
-fn moved_coordinate(i: u16, t: i32, n: u16) -> u16
-    requires side { IsSide n }
-    requires part { IsPart PARTS t }
-    requires within { i < n }
-    ensures value { result ≡ moved_coordinate i t n }
-    ensures within { result < n }
-{
-    let sum = u32::from(i) + t as u32 * u32::from(n) / UNIT;
-    if sum < u32::from(n) {
-        sum as u16
-    } else {
-        (sum - u32::from(n)) as u16
-    }
 }

@@ -9,6 +9,7 @@
 //! grid list (`lines_taken_are_first`). `first_points` gives for each grid point of a cell the first point of its orbit.
 #![tactic(auto)]
 
+mod axes;
 mod firsts;
 mod grid_orbits;
 mod grid_size;

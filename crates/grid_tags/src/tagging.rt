@@ -2,9 +2,11 @@ ghost use Rattle.std.specs.Prelude.{◌≡◌, ◌+◌, ◌<◌, ◌≤◌, ℕ,
 ghost use Rattle.lattice_algebra.specs.Operator.{Operator};
 ghost use Rattle.grid_tags.specs.Grids.{IsInGrid, points, triple_of};
 ghost use Rattle.grid_tags.specs.Steps.{ratios_of, turned, fixing_count, AreTagged};
+ghost use Rattle.grid_tags.specs.Axes.{AreAxes};
 
+use crate::axes::Axes;
 use crate::grid_size::GridSize;
-use crate::image::{moved, turned};
+use crate::image::turned;
 use crate::ratios::Ratios;
 use group_closure::Group;
 
@@ -15,11 +17,13 @@ pub fn tag_orbit<T: Copy>(
     tag: T,
     size: &GridSize,
     ratios: &Ratios,
+    axes: &Axes,
     group: &Group,
     at: &[u16; 3],
 ) -> u16
     requires len { length tags.old ≡ points size.now }
     requires ratios { ratios.now ≡ ratios_of size.now }
+    requires axes { AreAxes size.now axes.now }
     requires within { IsInGrid size.now (triple_of at.now) }
     ensures some { 0 < result }
     ensures count { result
@@ -34,7 +38,7 @@ pub fn tag_orbit<T: Copy>(
     while i < order {
         let image = turned(size, ratios, &group.op(i).w(), at);
         let end = group.run_end(i);
-        fixing += tag_run(tags, tag, size, group, at, &image, i, end);
+        fixing += tag_run(tags, tag, size, axes, group, at, &image, i, end);
         i = end;
     }
     fixing
@@ -45,6 +49,7 @@ fn tag_run<T: Copy>(
     tags: &mut [T],
     tag: T,
     size: &GridSize,
+    axes: &Axes,
     group: &Group,
     at: &[u16; 3],
     image: &[u16; 3],
@@ -52,6 +57,7 @@ fn tag_run<T: Copy>(
     end: u8,
 ) -> u16
     requires len { length tags.old ≡ points size.now }
+    requires axes { AreAxes size.now axes.now }
     requires within { IsInGrid size.now (triple_of at.now) }
     requires image_within { IsInGrid size.now (triple_of image.now) }
     requires bounds { (start ≤ end) × (end ≤ length group.now) }
@@ -64,9 +70,12 @@ fn tag_run<T: Copy>(
         → AreTagged group.now size.now (triple_of at.now) tag old tags.new end }
 {
     let place = size.place(at);
+    let x = axes.x.part(image[0]);
+    let y = axes.y.part(image[1]);
+    let z = axes.z.part(image[2]);
     let mut fixing = 0;
     for i in start..end {
-        let there = size.place(&moved(size, image, &group.op(i).t()));
+        let there = axes.place_after(x, y, z, &group.op(i).t());
         tags[there] = tag;
         if there == place {
             fixing += 1;

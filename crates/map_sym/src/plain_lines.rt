@@ -6,6 +6,7 @@ use crate::reading::VALUE_DIGITS;
 
 /// The value that the first line writes and what follows its line feed, where the line has nothing but a minus or none and at
 /// most `VALUE_DIGITS` digits. Some lines that write a value are not so.
+#[inline(always)]
 pub fn plain_line(text: &[u8]) -> Option<(i32, &[u8])>
     ensures { IfSome result (λ plain. IsPlainLine text.now plain.0 plain.1.now) }
 {
@@ -22,6 +23,7 @@ pub fn plain_line(text: &[u8]) -> Option<(i32, &[u8])>
 }
 
 /// The number that the first line writes with at most `VALUE_DIGITS` digits and nothing else, and what follows its line feed.
+#[inline(always)]
 fn digits_line(text: &[u8]) -> Option<(u32, &[u8])>
     ensures { IfSome result (λ cut. IsDigitsLine text.now cut.0 cut.1.now) }
 {

@@ -1,8 +1,8 @@
-use Rattle.grid_tags.proofs.BySteps.{stepped_none, raised_more}
+use Rattle.grid_tags.proofs.BySteps.{step_up, no_step}
 use Rattle.grid_tags.proofs.reduced.raised.Goals as goal
 
-pub loop-number-init : goal.loop-number-init
-loop-number-init c = stepped_none c.args.value c.args.n c.requires.size
+pub returns-then-value-lt0 : goal.returns-then-value-lt0
+returns-then-value-lt0 c = step_up c.args.value c.args.n c.requires.size c.requires.side.0 c.requires.side.1
 
-pub loop-number-preserved : goal.loop-number-preserved
-loop-number-preserved c = raised_more _ c.args.n _ c.ranges.n c.requires.side.0 c.requires.side.1 c.loop-number-test.true c.loop-number.invariant
+pub returns-else-value-lt0 : goal.returns-else-value-lt0
+returns-else-value-lt0 c = no_step c.args.value c.args.n c.requires.size
