@@ -126,16 +126,16 @@ impl Listed for PointLines<'_> {
 
     ghost fits = { Prim.search rules };
 
-    fn len(&self) -> u16 {
-        self.orbit.len()
+    fn len(&self) -> u32 {
+        u32::from(self.orbit.len())
     }
 
     fn longest_line(&self) -> usize {
         POINT_LINE
     }
 
-    fn push_line(&self, at: u16, page: &mut Page) {
-        push_point(self.number, &self.orbit.get(at), page);
+    fn push_line(&self, at: u32, page: &mut Page) {
+        push_point(self.number, &self.orbit.get(at as u16), page);
     }
 }
 

@@ -4,3 +4,4 @@ pub mod Gathering
 pub mod Places
 pub mod WalkPages
 pub mod PartTexts
+pub mod Pushed

@@ -7,9 +7,11 @@
 #![tactic(auto)]
 
 mod heading;
+mod index;
 mod listed;
 mod page;
 
-pub use heading::put_heading;
+pub use heading::{counted, put_heading};
+pub use index::{INDEX_TEXT, push_index};
 pub use listed::{Listed, print_listed, put_listed};
 pub use page::{PAGE_ROOM, Page, make_room, put_page};

@@ -18,7 +18,7 @@ pub trait Listed {
     ghost longest: { ℕ };
 
     /// How many elements there are.
-    fn len(&self) -> u16
+    fn len(&self) -> u32
         ensures count { result ≡ count self.now }
         ensures none { (at : ℕ) → result ≤ at → texts self.now at [] };
 
@@ -27,7 +27,7 @@ pub trait Listed {
         ensures { result ≡ longest };
 
     /// Adds the line of the element at a place, counted from 0, to the page, which has room for the longest.
-    fn push_line(&self, at: u16, page: &mut Page)
+    fn push_line(&self, at: u32, page: &mut Page)
         requires within { at < count self.now }
         requires room { length page.old + longest ≤ PAGE_ROOM }
         ensures { AddsLine (texts self.now at) (texts self.now (at + 1)) page.old page.new };

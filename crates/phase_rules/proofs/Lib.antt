@@ -3,6 +3,7 @@ pub mod Classes
 pub mod Phases
 pub mod Runs
 pub mod Opposites
+pub mod BothPairs
 pub mod SomeMark
 pub mod Alike
 mod Examples

@@ -1,5 +1,5 @@
 -- Members by halves, where the group has the matrix -1.
-use Rattle.std.proofs.Common.{◌≡◌, ℕ, zero, suc, ◌+◌, ◌-◌, ◌≤◌, ◌⊎◌, Some, List, [], ◌∷◌, ◌++◌, length, map, take, slice_get, ap, sym, ◌∙◌, subst, refl, arith, inl, inr, ⊎_elim, ℤ, pos, negsuc, ◌*ℤ◌, neg_ℤ, ◌<ℤ◌, ◌<◌, Contains, count_by, length-take, Ordering, Less, Equal, Greater}
+use Rattle.std.proofs.Common.{◌≡◌, ℕ, zero, suc, ◌+◌, ◌-◌, ◌≤◌, ◌⊎◌, Some, List, [], ◌∷◌, ◌++◌, length, map, take, get_or, slice_get, ap, sym, ◌∙◌, subst, refl, arith, inl, inr, ⊎_elim, ℤ, pos, negsuc, ◌*ℤ◌, neg_ℤ, ◌<ℤ◌, ◌<◌, Contains, count_by, length-take, Ordering, Less, Equal, Greater}
 use Rattle.std.specs.Cmp.Lexicographic.{slice_cmp}
 use Rattle.std.specs.Ordering.{ordering_then, int_cmp, MatchOrdering}
 use Rattle.std.proofs.lemmas.Bool.{cases_lt}
@@ -184,6 +184,18 @@ front_or_behind members i f c =
     (λ a. inl (c.0, omega (arith, length-take i members, c.1), get_or-take i members c.0 f a ∙ c.2))
     (λ a. inr (c.0, a, slice_get-get_or members c.0 f c.1 ∙ ap Some c.2))
     (cases_lt c.0 i)
+
+-- one of the members before `end` is one of those before place i, or stands from i on
+pub earlier_or_later : (members : List Operator) (i end : ℕ) (f : Operator) → Contains (take end members) f → Contains (take i members) f ⊎ ((k : ℕ) × (i ≤ k) × (k < end) × (slice_get members k ≡ Some f))
+earlier_or_later members i end f c =
+    let k = c.0 in
+    let l : k < end = omega (arith, c.1, length-take end members) in
+    let m : k < length members = omega (arith, c.1, length-take end members) in
+    let e : get_or members k f ≡ f = sym (get_or-take end members k f l) ∙ c.2 in
+    ⊎_elim
+    (λ a. inl (k, omega (arith, length-take i members), get_or-take i members k f a ∙ e))
+    (λ a. inr (k, a, l, slice_get-get_or members k f m ∙ ap Some e))
+    (cases_lt k i)
 
 -- ---- the tally of all, from that of those before place i, where none of these reverses h
 

@@ -124,6 +124,10 @@ row_computed x r m a b c v n w f g h p q s =
     } in
     e ∙ ap (λ y. y ·ʳ m) v
 
+pub first_computed : (x r : Row) (m : Matrix) (a : ℤ) → r ≡ x → AreWithin MAX_INDEX r.h r.k r.l → HasEntriesWithin 2 m → FitsSigned w32 a → a ≡ kept_products r.h r.k r.l m.xx m.yx m.zx → back w32 a ≡ (x ·ʳ m).h
+unfolding ◌·ʳ◌
+first_computed x r m a v n w f p = read w32 a _ f (p ∙ kept_sum MAX_INDEX 2 r.h r.k r.l m.xx m.yx m.zx n (record { first = w.x.first; second = w.y.first; third = w.z.first }) tt tt) ∙ ap (λ y. sum_of_products y.h y.k y.l m.xx m.yx m.zx) v
+
 pub dot_computed : (x r : Row) (c : Column) (a : ℤ) → r ≡ x → AreWithin MAX_INDEX r.h r.k r.l → AreParts UNIT c → FitsSigned w32 a → a ≡ kept_products r.h r.k r.l c.x c.y c.z → back w32 a ≡ x ·ʳᶜ c
 unfolding ◌·ʳᶜ◌
 dot_computed x r c a v n w f p = read w32 a _ f (p ∙ kept_sum MAX_INDEX (UNIT - 1) r.h r.k r.l c.x c.y c.z n (AreWithin-parts c w) tt tt) ∙ ap (λ y. y ·ʳᶜ c) v

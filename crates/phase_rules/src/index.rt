@@ -56,6 +56,14 @@ impl Index {
         ]
     }
 
+    /// The first number of the row h W.
+    pub fn first_times(&self, w: &[i32; 9]) -> i32
+        requires { HasEntriesWithin 2 (matrix_of w.now) }
+        ensures { result ≡ (self.now ·ʳ matrix_of w.now).h }
+    {
+        dot(self.h, self.k, self.l, w[0], w[3], w[6])
+    }
+
     /// The number h.t.
     pub fn along(&self, t: &[i32; 3]) -> i32
         requires { AreParts PARTS (column_of t.now) }

@@ -1,17 +1,16 @@
 -- The greatest row of a class, member by member.
-use Rattle.std.proofs.Common.{◌≡◌, ℕ, ◌*◌, ◌<◌, ◌≤◌, ◌⊎◌, List, [], ◌∷◌, length, take, get_or, slice_get, Some, inl, inr, ⊎_elim, ap, sym, ◌∙◌, subst, arith, ℤ, pos, negsuc, ◌-ℤ◌, neg_ℤ, unsigned_abs, w32, Contains, length-take, Less}
+use Rattle.std.proofs.Common.{T, true, ◌≡◌, ℕ, ◌*◌, ◌<◌, ◌≤◌, ◌⊎◌, List, [], ◌∷◌, length, take, get_or, slice_get, Some, inl, inr, ⊎_elim, ap, sym, ◌∙◌, subst, refl, arith, ℤ, pos, negsuc, ◌<ℤ◌, ◌-ℤ◌, neg_ℤ, unsigned_abs, w32, FitsSigned, Contains, length-take, Less}
 use Rattle.std.specs.Ordering.{int_cmp, ord_max}
 use Rattle.std.specs.Cmp.Lexicographic.{slice_cmp}
-use Rattle.std.proofs.lemmas.Bool.{cases_lt}
-use Rattle.std.proofs.lemmas.Int.{ints}
+use Rattle.std.proofs.lemmas.Int.{ints, to_z-of_z}
+use Rattle.std.specs.Int.Signed.{lt_z, lt_z_yes}
 use Rattle.std.proofs.lemmas.List.{take_all, get_or-take}
-use Rattle.std.proofs.lemmas.Option.{slice_get-get_or, get_or_from_slice_get, slice_get_within}
+use Rattle.std.proofs.lemmas.Option.{get_or_from_slice_get, slice_get_within}
 use Rattle.lattice_algebra.specs.Matrix.{Matrix, identity, scaled, sum_of_products}
-use Rattle.lattice_algebra.specs.Operator.{Operator, product, AreWithin, HasEntriesWithin}
+use Rattle.lattice_algebra.specs.Operator.{Operator, AreWithin, HasEntriesWithin}
 use Rattle.lattice_algebra.proofs.Machine.{back, kept, value-size}
 use Rattle.lattice_algebra.proofs.Numbers.{abs_neg}
 use Rattle.lattice_algebra.proofs.Ring.{var, ◌⊕◌, ◌⊗◌}
-use Rattle.exact_ops.specs.declared.TheConstants.{UNIT}
 use Rattle.group_closure.specs.GroupList.{IsGroup}
 use Rattle.group_closure.proofs.Places.{EndsRun, same_matrix}
 use Rattle.phase_rules.specs.declared.TheConstants.{MAX_INDEX}
@@ -20,11 +19,11 @@ use Rattle.phase_rules.specs.declared.pairs.Pairs.TheVariants.{Friedel, Apart}
 use Rattle.phase_rules.specs.Rows.{Row, row_of, ◌·ʳ◌, neg_row}
 use Rattle.phase_rules.specs.Equivalent.{IsSameReflection, AreEquivalent}
 use Rattle.phase_rules.specs.Halves.{HaveOpposites}
-use Rattle.phase_rules.proofs.Rows.{neg_row-neg_row}
-use Rattle.phase_rules.proofs.Opposites.{opposite_row, opposite_member, opposite_w, front_or_behind, front_member}
+use Rattle.phase_rules.proofs.Opposites.{earlier_or_later, front_member}
+use Rattle.phase_rules.proofs.BothPairs.{as_friedel, by_either, by_front}
 use Rattle.refl_merge.specs.Keys.{numbers_of, IsAbove, IsClassKey}
-use Rattle.refl_merge.specs.Steps.{IsGreatestImage}
-use Rattle.refl_merge.proofs.Order.{three_numbers, max_is, above_on, which_above, not_above_itself}
+use Rattle.refl_merge.specs.Steps.{IsGreatestImage, IsKeyWith}
+use Rattle.refl_merge.proofs.Order.{three_numbers, max_is, above_on, above_by_first, which_above, not_above_itself, not_both_above}
 
 -- ---- one image
 
@@ -77,18 +76,54 @@ image_with_opposite e o r p g = record {
   greatest = λ h s a. ⊎_elim (λ q. g.not_first (subst (λ v. IsAbove v r) q a)) (λ q. g.not_second (subst (λ v. IsAbove v r) (q ∙ sym p) a)) s;
 }
 
--- ---- member by member
+-- ---- a key and one image more
 
-earlier_or_later : (members : List Operator) (i end : ℕ) (f : Operator) → Contains (take end members) f → Contains (take i members) f ⊎ ((k : ℕ) × (i ≤ k) × (k < end) × (slice_get members k ≡ Some f))
-earlier_or_later members i end f c =
-    let k = c.0 in
-    let l : k < end = omega (arith, c.1, length-take end members) in
-    let m : k < length members = omega (arith, c.1, length-take end members) in
-    let e : get_or members k f ≡ f = sym (get_or-take end members k f l) ∙ c.2 in
+lower : (x low r : Row) → (IsAbove x low → ⊥) → (IsAbove low r → ⊥) → IsAbove x r → ⊥
+lower x low r p q a =
     ⊎_elim
-    (λ a. inl (k, omega (arith, length-take i members), get_or-take i members k f a ∙ e))
-    (λ a. inr (k, a, l, slice_get-get_or members k f m ∙ ap Some e))
-    (cases_lt k i)
+    p
+    (λ b. ⊎_elim (λ (e : x ≡ low). q (subst (λ v. IsAbove v r) e a)) (λ c. q (above_on low x r c a)) b)
+    (which_above x low)
+
+pub key_with_image : (pairs : Pairs) (e key image r : Row) → IsGreatestImage pairs e image → IsGreaterRow key image r → IsKeyWith pairs e key r
+key_with_image pairs e key image r g s = record {
+  one = ⊎_elim (λ q. inl q) (λ q. inr (subst (IsSameReflection pairs e) (sym q) g.same)) s.one;
+  not_key = s.not_first;
+  greatest = λ x same a. lower x image r (g.greatest x same) s.not_second a;
+}
+
+negated_first : (e : Row) → (neg_row e).h ≡ neg_ℤ e.h
+unfolding neg_row
+negated_first e = refl
+
+pub first_back : (x y : ℤ) → x ≡ y → unsigned_abs y ≤ 6 * MAX_INDEX → back w32 x ≡ y
+first_back x y e l = ap (back w32) e ∙ kept w32 (6 * MAX_INDEX) y l tt
+
+pub first_fits : (x y : ℤ) → x ≡ y → unsigned_abs y ≤ 6 * MAX_INDEX → FitsSigned w32 (neg_ℤ (back w32 x))
+first_fits x y e l = subst (λ n. FitsSigned w32 (neg_ℤ n)) (sym (first_back x y e l)) (small y l)
+  where
+    small : (y : ℤ) → unsigned_abs y ≤ 6 * MAX_INDEX → FitsSigned w32 (neg_ℤ y)
+    small y l = omega (arith, ints, l)
+
+pub less_read : (x y : ℤ) → FitsSigned w32 x → FitsSigned w32 y → lt_z (back w32 x) (back w32 y) ≡ true → x <ℤ y
+less_read x y f g e = subst (λ n. n <ℤ y) (to_z-of_z w32 x f) (subst (λ n. back w32 x <ℤ n) (to_z-of_z w32 y g) (lt_z_yes (subst T (sym e) tt)))
+
+-- an image whose first number is less in size than that of the key leaves the key
+pub key_kept : (pairs : Pairs) (e key : Row) → pos (unsigned_abs e.h) <ℤ key.h → IsKeyWith pairs e key key
+key_kept pairs e key l = record {
+  one = inl refl;
+  not_key = not_above_itself key key refl;
+  greatest = λ g s. not_both_above key g (above_by_first key g (first_less g (as_friedel pairs e g s)));
+}
+  where
+    first_less : (g : Row) → IsSameReflection Friedel e g → g.h <ℤ key.h
+    first_less g s =
+        ⊎_elim
+        (λ q. let h : g.h ≡ e.h = ap (λ (r : Row). r.h) q in omega (arith, ints))
+        (λ q. let h : g.h ≡ neg_ℤ e.h = ap (λ (r : Row). r.h) q ∙ negated_first e in omega (arith, ints))
+        s
+
+-- ---- member by member
 
 front_more : (members : List Operator) (i end : ℕ) (f : Operator) → i ≤ end → Contains (take i members) f → Contains (take end members) f
 front_more members i end f l c =
@@ -110,29 +145,21 @@ module _ (pairs : Pairs) (members : List Operator) (h : Row) where
           let z : c.0 ≡ 0 = omega (arith, c.1, length-take 1 members) in
           sym c.2 ∙ get_or-take 1 members c.0 x (omega arith) ∙ ap (λ n. get_or members n x) z ∙ get_or_from_slice_get members 0 f x e
 
-  pub key_more : (i end : ℕ) (f : Operator) (key image r : Row) → i < end → slice_get members i ≡ Some f → EndsRun members i end → IsClassKey pairs (take i members) h key → IsGreatestImage pairs (h ·ʳ f.w) image → IsGreaterRow key image r
-      → IsClassKey pairs (take end members) h r
-  key_more i end f key image r l e ends k g s = record {
+  pub key_more : (i end : ℕ) (f : Operator) (key r : Row) → i < end → slice_get members i ≡ Some f → EndsRun members i end → IsClassKey pairs (take i members) h key → IsKeyWith pairs (h ·ʳ f.w) key r → IsClassKey pairs (take end members) h r
+  key_more i end f key r l e ends k s = record {
     equivalent =
         ⊎_elim
         (λ q. subst (AreEquivalent pairs (take end members) h) (sym q) (record { by = k.equivalent.by; member = front_more members i end k.equivalent.by (omega arith) k.equivalent.member; same = k.equivalent.same }))
-        (λ q. subst (AreEquivalent pairs (take end members) h) (sym q) (record { by = f; member = front_at members i end f l e; same = g.same }))
+        (λ q. record { by = f; member = front_at members i end f l e; same = q })
         s.one;
     greatest = λ x a p.
         ⊎_elim
-        (λ c. lower x key (λ q. k.greatest x (record { by = a.by; member = c; same = a.same }) q) s.not_first p)
+        (λ c. lower x key r (λ q. k.greatest x (record { by = a.by; member = c; same = a.same }) q) s.not_key p)
         (λ c.
         let same : a.by.w ≡ f.w = same_matrix members i end c.0 f a.by ends e c.3 c.1 c.2 in
-        lower x image (λ q. g.greatest x (subst (λ m. IsSameReflection pairs (h ·ʳ m) x) same a.same) q) s.not_second p)
+        s.greatest x (subst (λ m. IsSameReflection pairs (h ·ʳ m) x) same a.same) p)
         (earlier_or_later members i end a.by a.member);
   }
-    where
-      lower : (x low : Row) → (IsAbove x low → ⊥) → (IsAbove low r → ⊥) → IsAbove x r → ⊥
-      lower x low p q a =
-          ⊎_elim
-          p
-          (λ b. ⊎_elim (λ (e : x ≡ low). q (subst (λ v. IsAbove v r) e a)) (λ c. q (above_on low x r c a)) b)
-          (which_above x low)
 
   pub key_all : (i : ℕ) (key : Row) → length members ≤ i → IsClassKey pairs (take i members) h key → IsClassKey pairs members h key
   key_all i key l k = subst (λ xs. IsClassKey pairs xs h key) (take_all i members l) k
@@ -140,42 +167,8 @@ module _ (pairs : Pairs) (members : List Operator) (h : Row) where
 -- ---- with the first members, where each later one has the opposite matrix of one of these, and j has the matrix -1
 
 module _ (members : List Operator) (h : Row) (group : IsGroup members) (j : Operator) (member : Contains members j) (inverts : j.w ≡ scaled (negsuc 0) identity) where
-  turned : (pairs : Pairs) (g : Row) → AreEquivalent Friedel members h g → AreEquivalent pairs members h g
-  turned Friedel g a = a
-  turned Apart g a =
-      ⊎_elim
-      (λ e. record { by = a.by; member = a.member; same = e })
-      (λ e. record {
-        by = product UNIT a.by j;
-        member = opposite_member members group j member inverts a.by a.member;
-        same = e ∙ sym (ap (λ m. h ·ʳ m) (opposite_w members group j member inverts a.by) ∙ opposite_row h a.by.w);
-      })
-      a.same
-
-  as_friedel : (pairs : Pairs) (e g : Row) → IsSameReflection pairs e g → IsSameReflection Friedel e g
-  as_friedel Friedel e g s = s
-  as_friedel Apart e g s = inl s
-
-  flipped : (e k g : Row) → k ≡ neg_row e → IsSameReflection Friedel e g → IsSameReflection Friedel k g
-  flipped e k g q s =
-      ⊎_elim
-      (λ a. inr (a ∙ sym (ap neg_row q ∙ neg_row-neg_row e)))
-      (λ a. inl (a ∙ sym q))
-      s
-
-  -- what is equivalent by any member is so by one of the first
-  by_front : (pairs : Pairs) (i : ℕ) (g : Row) → HaveOpposites members i → AreEquivalent pairs members h g → AreEquivalent Friedel (take i members) h g
-  by_front pairs i g opposites a =
-      let s = as_friedel pairs (h ·ʳ a.by.w) g a.same in
-      ⊎_elim
-      (λ m. record { by = a.by; member = m; same = s })
-      (λ b.
-      let o = opposites b.0 a.by b.1 b.2 in
-      record { by = o.0; member = o.1; same = flipped (h ·ʳ a.by.w) (h ·ʳ o.0.w) g (ap (λ m. h ·ʳ m) o.2 ∙ opposite_row h a.by.w) s })
-      (front_or_behind members i a.by a.member)
-
   pub key_by_half : (pairs : Pairs) (i : ℕ) (key : Row) → HaveOpposites members i → IsClassKey Friedel (take i members) h key → IsClassKey pairs members h key
   key_by_half pairs i key opposites k = record {
-    equivalent = turned pairs key (record { by = k.equivalent.by; member = front_member members i k.equivalent.by k.equivalent.member; same = k.equivalent.same });
-    greatest = λ g a. k.greatest g (by_front pairs i g opposites a);
+    equivalent = by_either members h group j member inverts pairs key (record { by = k.equivalent.by; member = front_member members i k.equivalent.by k.equivalent.member; same = k.equivalent.same });
+    greatest = λ g a. k.greatest g (by_front members h group j member inverts pairs i g opposites a);
   }

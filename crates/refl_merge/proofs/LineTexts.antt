@@ -17,33 +17,8 @@ use Rattle.triplet_text.proofs.IntegerLaw.{one_integer, IntegerOrNone, integer_o
 use Rattle.data_lines.specs.Fields.{fields_of}
 use Rattle.data_lines.proofs.DataLaws.{WrittenOrNot}
 use Rattle.refl_merge.specs.declared.measured.Measured.{Measured}
-use Rattle.refl_merge.specs.declared.reading.TheConstants.{INDEX_DIGITS, VALUE_DIGITS}
+use Rattle.data_lines.specs.declared.number.TheConstants.{NUMBER_DIGITS}
 use Rattle.refl_merge.specs.MeasuredLines.{IsMeasuredLine, AreMeasuredLines}
-
--- ---- sizes
-
-digit_small : (b : ℕ) → is_digit b ≡ true → b - 48 ≤ 9
-digit_small b t = grind (arith, nat_tests)
-
-digits_below : (text : List ℕ) → Each is_digit text → value_of text < 10 ^ length text
-digits_below [] e = omega arith
-digits_below (b ∷ text) e =
-    let k = 10 ^ length text in
-    let here : (b - 48) * k ≤ 9 * k = mul-le-mul (digit_small b e.0) (le_refl k) in
-    let rest : value_of text < k = digits_below text e.1 in
-    let power : 10 ^ suc (length text) ≡ k * 10 = pow-suc 10 (length text) in
-    omega (arith, here, rest, power)
-
-natural_size : (most : ℕ) (text : List ℕ) (n : ℕ) → IsNatural most text n → n < 10 ^ most
-natural_size most text n h =
-    let below : value_of text < 10 ^ length text = digits_below text h.digits.digits in
-    let within : 10 ^ length text ≤ 10 ^ most = pow-le-pow_right (omega arith) h.short in
-    omega (arith, below, within, h.value)
-
-pub integer_size : {most : ℕ} {text : List ℕ} {z : ℤ} → IsInteger most text z → unsigned_abs z < 10 ^ most
-integer_size {most} (bare {text} {n} h) = natural_size most text n h
-integer_size {most} (plus {text} {n} h) = natural_size most text n h
-integer_size {most} (minus {text} {n} h) = rw (abs_neg (pos n)) (natural_size most text n h)
 
 -- ---- no more lines are measured than there are
 
@@ -60,10 +35,10 @@ lines_within bytes = omega (arith, length-slice_split (λ byte. byte == line_fee
 module _ (line h k l value : List ℕ) (fields : fields_of line ≡ h ∷ k ∷ l ∷ value ∷ []) where
   -- a line with these fields has their numbers
   pub record HasNumbers (m : Measured) : Type 0 where
-    pub is_h : IsInteger INDEX_DIGITS h m.index.h
-    pub is_k : IsInteger INDEX_DIGITS k m.index.k
-    pub is_l : IsInteger INDEX_DIGITS l m.index.l
-    pub is_value : IsInteger VALUE_DIGITS value m.value
+    pub is_h : IsInteger NUMBER_DIGITS h m.index.h
+    pub is_k : IsInteger NUMBER_DIGITS k m.index.k
+    pub is_l : IsInteger NUMBER_DIGITS l m.index.l
+    pub is_value : IsInteger NUMBER_DIGITS value m.value
 
   numbers_of_fields : (m : Measured) → IsMeasuredLine line m → HasNumbers m
   numbers_of_fields m w =
@@ -73,30 +48,30 @@ module _ (line h k l value : List ℕ) (fields : fields_of line ≡ h ∷ k ∷ 
       let c : w.l ≡ l = cc in
       let d : w.value ≡ value = cc in
       record {
-        is_h = subst (λ t. IsInteger INDEX_DIGITS t m.index.h) a w.is_h;
-        is_k = subst (λ t. IsInteger INDEX_DIGITS t m.index.k) b w.is_k;
-        is_l = subst (λ t. IsInteger INDEX_DIGITS t m.index.l) c w.is_l;
-        is_value = subst (λ t. IsInteger VALUE_DIGITS t m.value) d w.is_value;
+        is_h = subst (λ t. IsInteger NUMBER_DIGITS t m.index.h) a w.is_h;
+        is_k = subst (λ t. IsInteger NUMBER_DIGITS t m.index.k) b w.is_k;
+        is_l = subst (λ t. IsInteger NUMBER_DIGITS t m.index.l) c w.is_l;
+        is_value = subst (λ t. IsInteger NUMBER_DIGITS t m.value) d w.is_value;
       }
 
   -- where the first three are no index in range
-  pub no_index : (x y z : ℤ) → IsInteger INDEX_DIGITS h x → IsInteger INDEX_DIGITS k y → IsInteger INDEX_DIGITS l z → (AreWithin MAX_INDEX x y z → ⊥) → (m : Measured) → IsMeasuredLine line m → ⊥
+  pub no_index : (x y z : ℤ) → IsInteger NUMBER_DIGITS h x → IsInteger NUMBER_DIGITS k y → IsInteger NUMBER_DIGITS l z → (AreWithin MAX_INDEX x y z → ⊥) → (m : Measured) → IsMeasuredLine line m → ⊥
   no_index x y z p q r none m w =
       let n = numbers_of_fields m w in
-      let a : m.index.h ≡ x = one_integer INDEX_DIGITS h m.index.h x n.is_h p in
-      let b : m.index.k ≡ y = one_integer INDEX_DIGITS k m.index.k y n.is_k q in
-      let c : m.index.l ≡ z = one_integer INDEX_DIGITS l m.index.l z n.is_l r in
+      let a : m.index.h ≡ x = one_integer NUMBER_DIGITS h m.index.h x n.is_h p in
+      let b : m.index.k ≡ y = one_integer NUMBER_DIGITS k m.index.k y n.is_k q in
+      let c : m.index.l ≡ z = one_integer NUMBER_DIGITS l m.index.l z n.is_l r in
       none (subst (AreWithin MAX_INDEX x y) c (subst (λ v. AreWithin MAX_INDEX x v m.index.l) b (subst (λ v. AreWithin MAX_INDEX v m.index.k m.index.l) a w.in_range)))
 
   one_with_numbers : (a b : Measured) → HasNumbers a → HasNumbers b → a ≡ b
   one_with_numbers a b p q =
-      let x : a.index.h ≡ b.index.h = one_integer INDEX_DIGITS h a.index.h b.index.h p.is_h q.is_h in
-      let y : a.index.k ≡ b.index.k = one_integer INDEX_DIGITS k a.index.k b.index.k p.is_k q.is_k in
-      let z : a.index.l ≡ b.index.l = one_integer INDEX_DIGITS l a.index.l b.index.l p.is_l q.is_l in
-      let v : a.value ≡ b.value = one_integer VALUE_DIGITS value a.value b.value p.is_value q.is_value in
+      let x : a.index.h ≡ b.index.h = one_integer NUMBER_DIGITS h a.index.h b.index.h p.is_h q.is_h in
+      let y : a.index.k ≡ b.index.k = one_integer NUMBER_DIGITS k a.index.k b.index.k p.is_k q.is_k in
+      let z : a.index.l ≡ b.index.l = one_integer NUMBER_DIGITS l a.index.l b.index.l p.is_l q.is_l in
+      let v : a.value ≡ b.value = one_integer NUMBER_DIGITS value a.value b.value p.is_value q.is_value in
       λ i. record { index = record { h = x i; k = y i; l = z i }; value = v i }
 
-  numbers_decided : IntegerOrNone INDEX_DIGITS h → IntegerOrNone INDEX_DIGITS k → IntegerOrNone INDEX_DIGITS l → IntegerOrNone VALUE_DIGITS value → WrittenOrNot IsMeasuredLine line
+  numbers_decided : IntegerOrNone NUMBER_DIGITS h → IntegerOrNone NUMBER_DIGITS k → IntegerOrNone NUMBER_DIGITS l → IntegerOrNone NUMBER_DIGITS value → WrittenOrNot IsMeasuredLine line
   numbers_decided (inl x) (inl y) (inl z) (inl v) = by (within_or_not MAX_INDEX x.0 y.0 z.0)
     where
       by : AreWithin MAX_INDEX x.0 y.0 z.0 ⊎ (AreWithin MAX_INDEX x.0 y.0 z.0 → ⊥) → WrittenOrNot IsMeasuredLine line
@@ -111,7 +86,7 @@ module _ (line h k l value : List ℕ) (fields : fields_of line ≡ h ∷ k ∷ 
   numbers_decided (inl x) (inl y) (inl z) (inr n) = inr (λ m w. n m.value (numbers_of_fields m w).is_value)
 
 four_or_not : (line : List ℕ) (fields : List (List ℕ)) → fields_of line ≡ fields → WrittenOrNot IsMeasuredLine line
-four_or_not line (h ∷ k ∷ l ∷ value ∷ []) e = numbers_decided line h k l value e (integer_or_none INDEX_DIGITS h) (integer_or_none INDEX_DIGITS k) (integer_or_none INDEX_DIGITS l) (integer_or_none VALUE_DIGITS value)
+four_or_not line (h ∷ k ∷ l ∷ value ∷ []) e = numbers_decided line h k l value e (integer_or_none NUMBER_DIGITS h) (integer_or_none NUMBER_DIGITS k) (integer_or_none NUMBER_DIGITS l) (integer_or_none NUMBER_DIGITS value)
 four_or_not line [] e = inr (λ m w. let f = sym w.fields ∙ e in absurd cc)
 four_or_not line (a ∷ []) e = inr (λ m w. let f = sym w.fields ∙ e in absurd cc)
 four_or_not line (a ∷ b ∷ []) e = inr (λ m w. let f = sym w.fields ∙ e in absurd cc)

@@ -1,10 +1,11 @@
 -- The order of rows.
-use Rattle.std.proofs.Common.{◌≡◌, ◌⊎◌, ℤ, pos, List, [], ◌∷◌, length, cond, get_or, ap, sym, ◌∙◌, subst, refl, arith, inl, inr, Ordering, Less, Equal, Greater}
+use Rattle.std.proofs.Common.{◌≡◌, ◌⊎◌, ℤ, ◌<ℤ◌, pos, List, [], ◌∷◌, length, cond, get_or, ap, sym, ◌∙◌, subst, refl, arith, inl, inr, Ordering, Less, Equal, Greater}
 use Rattle.std.specs.Cmp.{IsTotalOrder}
 use Rattle.std.specs.Cmp.Lexicographic.{slice_cmp}
 use Rattle.std.specs.FinMap.{int_cmp-IsAntisymmetric, slice_cmp-IsAntisymmetric}
-use Rattle.std.specs.Ordering.{int_cmp, ordering_reverse, ordering_then, is_lt, ord_max}
-use Rattle.std.proofs.lemmas.Cmp.{lists_total, on_total, int_cmp_total, tied_itself}
+use Rattle.std.specs.Ordering.{int_cmp, ordering_reverse, ordering_then, is_lt, ord_max, MatchOrdering}
+use Rattle.std.proofs.lemmas.Cmp.{lists_total, on_total, int_cmp_total, int_ranked, tied_itself}
+use Rattle.std.proofs.lemmas.Int.{ints}
 use Rattle.phase_rules.specs.Rows.{Row, row_of}
 use Rattle.refl_merge.specs.Keys.{numbers_of, row_cmp, IsAbove}
 
@@ -19,6 +20,14 @@ row_ties a b e = ap row_of (list_ties (numbers_of a) (numbers_of b) e)
 
 pub above_on : (a b c : Row) → IsAbove a b → IsAbove b c → IsAbove a c
 above_on a b c p q = row_cmp_total.trans c b a q p
+
+pub above_by_first : (a b : Row) → b.h <ℤ a.h → IsAbove a b
+above_by_first a b l = by (int_cmp b.h a.h) (int_ranked b.h a.h _ refl)
+  where
+    by : (o : Ordering) → MatchOrdering o (b.h <ℤ a.h) (b.h ≡ a.h) (a.h <ℤ b.h) → ordering_then o (ordering_then (int_cmp b.k a.k) (ordering_then (int_cmp b.l a.l) Equal)) ≡ Less
+    by Less m = refl
+    by Equal m = absurd (omega (arith, ints, l, m))
+    by Greater m = absurd (omega (arith, ints, l, m))
 
 pub not_above_itself : (a b : Row) → a ≡ b → IsAbove a b → ⊥
 not_above_itself a b e p =

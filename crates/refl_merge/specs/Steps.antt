@@ -1,5 +1,5 @@
 -- What merging keeps on its way: lines with the keys of their classes, in order, and the merged lines of some of them.
-use Rattle.std.specs.Prelude.{◌≡◌, ◌≢◌, ◌<◌, ◌≤◌, ◌↔◌, IsTrue, ℕ, ℤ, Bool, Some, List, length, map, slice_get, IsPermutation}
+use Rattle.std.specs.Prelude.{◌≡◌, ◌≢◌, ◌<◌, ◌≤◌, ◌↔◌, ◌⊎◌, IsTrue, ℕ, ℤ, Bool, Some, List, length, map, slice_get, IsPermutation}
 use Rattle.std.specs.List.{All, AllPairs, Contains, filter}
 use Rattle.std.specs.Ordering.{on, flip_args, int_cmp, eq_by_cmp}
 use Rattle.std.specs.Cmp.Lexicographic.{slice_cmp}
@@ -19,6 +19,12 @@ use Rattle.refl_merge.specs.Merged.{sum_of_values, HasValue, IsMergeOf}
 -- r is e, or with Friedel's law the greater of e and its opposite
 pub record IsGreatestImage (pairs : Pairs) (e r : Row) : Type 0 where
   pub same : IsSameReflection pairs e r
+  pub greatest : (g : Row) → IsSameReflection pairs e g → ¬ IsAbove g r
+
+-- r is the greater of the key and the greatest image of e
+pub record IsKeyWith (pairs : Pairs) (e key r : Row) : Type 0 where
+  pub one : (r ≡ key) ⊎ IsSameReflection pairs e r
+  pub not_key : ¬ IsAbove key r
   pub greatest : (g : Row) → IsSameReflection pairs e g → ¬ IsAbove g r
 
 -- the key is that of the line's class

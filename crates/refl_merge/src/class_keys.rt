@@ -7,7 +7,7 @@ ghost use Rattle.phase_rules.specs.declared.TheConstants.{MAX_INDEX};
 ghost use Rattle.phase_rules.specs.declared.pairs.Pairs.{Pairs};
 ghost use Rattle.phase_rules.specs.Rows.{row_of, ◌·ʳ◌, neg_row};
 ghost use Rattle.refl_merge.specs.Keys.{IsClassKey};
-ghost use Rattle.refl_merge.specs.Steps.{IsGreatestImage};
+ghost use Rattle.refl_merge.specs.Steps.{IsGreatestImage, IsKeyWith};
 
 use crate::rows::greater;
 use exact_ops::Op;
@@ -35,8 +35,7 @@ fn key_by_runs(group: &Group, index: &Index, pairs: Pairs) -> [i32; 3]
     let mut key = greatest_image(index, &group.op(0), pairs);
     let mut i = group.run_end(0);
     while i < order {
-        let image = greatest_image(index, &group.op(i), pairs);
-        let greatest = greater(&key, &image);
+        let greatest = key_with(&key, index, &group.op(i), pairs);
         key = greatest;
         i = group.run_end(i);
     }
@@ -53,12 +52,24 @@ fn key_with_opposites(group: &Group, index: &Index, inversion: u8) -> [i32; 3]
     let mut key = greatest_image(index, &group.op(0), Pairs::Friedel);
     let mut i = group.run_end(0);
     'runs: while stands_first(group, i) {
-        let image = greatest_image(index, &group.op(i), Pairs::Friedel);
-        let greatest = greater(&key, &image);
+        let greatest = key_with(&key, index, &group.op(i), Pairs::Friedel);
         key = greatest;
         i = group.run_end(i);
     }
     key
+}
+
+/// The greater of the key and the greatest image. Most images have a first number that is less in size, which is asked alone.
+fn key_with(key: &[i32; 3], index: &Index, op: &Op, pairs: Pairs) -> [i32; 3]
+    ensures { IsKeyWith pairs (index.now ·ʳ op.now.w) (row_of key.now) (row_of result) }
+{
+    // An index is known to be in range where one of its numbers is read.
+    let _h = index.h;
+    let first = index.first_times(&op.w());
+    if first.abs() < key[0] {
+        return *key;
+    }
+    greater(key, &greatest_image(index, op, pairs))
 }
 
 /// The image h W of the index, or with Friedel's law the greater of it and -h W.

@@ -29,4 +29,4 @@ pub use measured::{Measured, MeasuredList};
 pub use merged::{Merged, MergedLine};
 pub use merging::merge;
 pub use printing::print_merged;
-pub use reading::{INDEX_DIGITS, MeasuredFault, VALUE_DIGITS, read_list, read_measured};
+pub use reading::{MeasuredFault, read_list, read_measured};

@@ -1,22 +1,13 @@
-ghost use Rattle.std.specs.Prelude.{◌≡◌, ◌+◌, ◌<◌, ◌≤◌, ◌^◌, ℤ, IfSome, IfNone, IfOk, IfErr, length};
-ghost use Rattle.triplet_text.specs.Integers.{IsInteger};
+ghost use Rattle.std.specs.Prelude.{◌+◌, ◌<◌, ◌^◌, IfSome, IfNone, IfOk, IfErr, length};
 ghost use Rattle.triplet_text.specs.Lines.{lines_of};
 ghost use Rattle.data_lines.specs.DataLines.{IsDataFaultOf};
-ghost use Rattle.refl_merge.specs.declared.reading.TheConstants.{VALUE_DIGITS as MOST_DIGITS};
 ghost use Rattle.refl_merge.specs.declared.measured.Measured.{Measured as Line};
 ghost use Rattle.refl_merge.specs.MeasuredLines.{IsMeasuredLine, AreMeasuredLines};
 
 use crate::measured::{Measured, MeasuredList};
-use data_lines::{DataFault, Datum, four_fields, read_data};
+use data_lines::{DataFault, Datum, four_fields, read_data, read_number};
 use phase_rules::Index;
 use std::alloc::Global;
-use triplet_text::read_integer;
-
-/// The most digits that a number of an index has.
-pub const INDEX_DIGITS: usize = 9;
-
-/// The most digits that a value has.
-pub const VALUE_DIGITS: usize = 9;
 
 /// Why measured lines could not be read. A line is bad where it is not skipped and writes no index with a value.
 pub type MeasuredFault = DataFault;
@@ -27,11 +18,11 @@ pub fn read_measured(line: &[u8]) -> Option<Measured>
     ensures none { IfNone result ((m : Line) → IsMeasuredLine line.now m → ⊥) }
 {
     let (h, k, l, value) = four_fields(line)?;
-    let h = read_number(h, INDEX_DIGITS)?;
-    let k = read_number(k, INDEX_DIGITS)?;
-    let l = read_number(l, INDEX_DIGITS)?;
+    let h = read_number(h)?;
+    let k = read_number(k)?;
+    let l = read_number(l)?;
     let index = Index::of(h, k, l)?;
-    let value = read_number(value, VALUE_DIGITS)?;
+    let value = read_number(value)?;
     Some(Measured { index, value })
 }
 
@@ -51,14 +42,4 @@ pub fn read_list(alloc: Global, bytes: &[u8], line: u32) -> Result<MeasuredList,
 {
     let lines = read_data::<Measured>(alloc, bytes, line)?;
     Ok(MeasuredList { lines })
-}
-
-/// The whole number that is written with at most so many digits, with a sign before it or none. None exactly where the text is no
-/// such number.
-fn read_number(text: &[u8], most: usize) -> Option<i32>
-    requires { most ≤ MOST_DIGITS }
-    ensures some { IfSome result (IsInteger most text.now) }
-    ensures none { IfNone result ((n : ℤ) → IsInteger most text.now n → ⊥) }
-{
-    Some(read_integer(text, most)? as i32)
 }

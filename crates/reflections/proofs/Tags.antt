@@ -1,12 +1,9 @@
 -- What setting tags does to the rows of a box.
-use Rattle.std.proofs.Common.{◌≡◌, ℕ, ◌<◌, ◌≤◌, ◌↔◌, ◌⊎◌, Bool, true, List, length, set, take, get_or, slice_get, Some, inl, inr, ⊎_elim, ap, sym, ◌∙◌, subst, arith, Contains, negsuc, length-take}
-use Rattle.std.proofs.lemmas.Bool.{cases_lt}
-use Rattle.std.proofs.lemmas.List.{length-set, take_all, get_or-take}
-use Rattle.std.proofs.lemmas.Option.{slice_get-get_or}
+use Rattle.std.proofs.Common.{◌≡◌, ℕ, ◌≤◌, ◌↔◌, ◌⊎◌, Bool, true, List, length, set, take, slice_get, Some, inl, inr, ⊎_elim, sym, ◌∙◌, subst, arith, Contains, negsuc}
+use Rattle.std.proofs.lemmas.List.{length-set, take_all}
 use Rattle.finite_groups.proofs.Members as lists
 use Rattle.lattice_algebra.specs.Matrix.{Matrix, identity, scaled}
-use Rattle.lattice_algebra.specs.Operator.{Operator, product}
-use Rattle.exact_ops.specs.declared.TheConstants.{UNIT}
+use Rattle.lattice_algebra.specs.Operator.{Operator}
 use Rattle.group_closure.specs.GroupList.{IsGroup}
 use Rattle.group_closure.proofs.Places.{contains_at}
 use Rattle.phase_rules.specs.declared.pairs.Pairs.{Pairs}
@@ -14,9 +11,9 @@ use Rattle.phase_rules.specs.declared.pairs.Pairs.TheVariants.{Friedel, Apart}
 use Rattle.phase_rules.specs.Rows.{Row, ◌·ʳ◌, neg_row}
 use Rattle.phase_rules.specs.Equivalent.{IsSameReflection, AreEquivalent}
 use Rattle.phase_rules.specs.Halves.{HaveOpposites}
-use Rattle.phase_rules.proofs.Rows.{neg_row-neg_row}
 use Rattle.group_closure.proofs.Places.{EndsRun, same_matrix}
-use Rattle.phase_rules.proofs.Opposites.{opposite_row, opposite_member, opposite_w, front_or_behind}
+use Rattle.phase_rules.proofs.Opposites.{earlier_or_later}
+use Rattle.phase_rules.proofs.BothPairs.{by_either, by_front}
 use Rattle.tag_walks.proofs.Walks as walks
 use Rattle.reflections.specs.Boxes.{Box, IsInBox, place_of, places}
 use Rattle.reflections.specs.Walks.{IsTagged}
@@ -59,18 +56,6 @@ pub record AreReached (pairs : Pairs) (members : List Operator) (box : Box) (old
 abbrev pub AreTagged : Pairs → Box → List Bool → List Bool → Row → Matrix → Type 0
 AreTagged pairs box old new h w = (g : Row) → IsInBox box g → IsTagged box new g ↔ (IsTagged box old g ⊎ IsSameReflection pairs (h ·ʳ w) g)
 
--- one of the first members is one of the first i, or stands from i on
-earlier_or_later : (members : List Operator) (i end : ℕ) (f : Operator) → Contains (take end members) f → Contains (take i members) f ⊎ ((k : ℕ) × (i ≤ k) × (k < end) × (slice_get members k ≡ Some f))
-earlier_or_later members i end f c =
-    let k = c.0 in
-    let l : k < end = omega (arith, c.1, length-take end members) in
-    let m : k < length members = omega (arith, c.1, length-take end members) in
-    let e : get_or members k f ≡ f = sym (get_or-take end members k f l) ∙ c.2 in
-    ⊎_elim
-    (λ a. inl (k, omega (arith, length-take i members), get_or-take i members k f a ∙ e))
-    (λ a. inr (k, a, l, slice_get-get_or members k f m ∙ ap Some e))
-    (cases_lt k i)
-
 module _ (pairs : Pairs) (members : List Operator) (box : Box) (old : List Bool) (h : Row) where
   pub reached_none : AreReached pairs members box old old h 0
   reached_none = record {
@@ -100,42 +85,12 @@ module _ (pairs : Pairs) (members : List Operator) (box : Box) (old : List Bool)
 
 -- with the first i members, where each later one has the opposite matrix of one of these, and j has the matrix -1
 module _ (members : List Operator) (box : Box) (old : List Bool) (h : Row) (group : IsGroup members) (j : Operator) (member : Contains members j) (inverts : j.w ≡ scaled (negsuc 0) identity) where
-  turned : (pairs : Pairs) (g : Row) → AreEquivalent Friedel members h g → AreEquivalent pairs members h g
-  turned Friedel g a = a
-  turned Apart g a =
-      ⊎_elim
-      (λ e. record { by = a.by; member = a.member; same = e })
-      (λ e. record {
-        by = product UNIT a.by j;
-        member = opposite_member members group j member inverts a.by a.member;
-        same = e ∙ sym (ap (λ m. h ·ʳ m) (opposite_w members group j member inverts a.by) ∙ opposite_row h a.by.w);
-      })
-      a.same
-
-  as_friedel : (pairs : Pairs) (e g : Row) → IsSameReflection pairs e g → IsSameReflection Friedel e g
-  as_friedel Friedel e g s = s
-  as_friedel Apart e g s = inl s
-
-  flipped : (e k g : Row) → k ≡ neg_row e → IsSameReflection Friedel e g → IsSameReflection Friedel k g
-  flipped e k g q s =
-      ⊎_elim
-      (λ a. inr (a ∙ sym (ap neg_row q ∙ neg_row-neg_row e)))
-      (λ a. inl (a ∙ sym q))
-      s
-
   pub reached_by_half : (pairs : Pairs) (new : List Bool) (i : ℕ) → HaveOpposites members i → AreReached Friedel members box old new h i → (g : Row) → IsInBox box g → IsTagged box new g ↔ (IsTagged box old g ⊎ AreEquivalent pairs members h g)
   reached_by_half pairs new i opposites r g k = (
-    (λ s. ⊎_elim (λ a. inl a) (λ a. inr (turned pairs g a)) (r.sound g k s)),
+    (λ s. ⊎_elim (λ a. inl a) (λ a. inr (by_either members h group j member inverts pairs g a)) (r.sound g k s)),
     (λ s.
         ⊎_elim
         (r.kept g k)
-        (λ a.
-        let s = as_friedel pairs (h ·ʳ a.by.w) g a.same in
-        ⊎_elim
-        (λ m. r.reached g k (record { by = a.by; member = m; same = s }))
-        (λ b.
-        let o = opposites b.0 a.by b.1 b.2 in
-        r.reached g k (record { by = o.0; member = o.1; same = flipped (h ·ʳ a.by.w) (h ·ʳ o.0.w) g (ap (λ m. h ·ʳ m) o.2 ∙ opposite_row h a.by.w) s }))
-        (front_or_behind members i a.by a.member))
+        (λ a. r.reached g k (by_front members h group j member inverts pairs i g opposites a))
         s),
   )

@@ -12,7 +12,8 @@ use Rattle.grid_tags.specs.Grids.{Grid, IsSide, IsGridInRange, points}
 use Rattle.triplet_text.specs.Integers.{IsNatural, IsInteger}
 use Rattle.triplet_text.proofs.IntegerLaw.{one_natural, natural_or_none, one_integer, integer_or_none}
 use Rattle.basis_change.proofs.Decided.{OrNot, both, at_most, likewise}
-use Rattle.sg_cli.specs.declared.TheConstants.{NUMBER_DIGITS, SEED_DIGITS}
+use Rattle.data_lines.specs.declared.number.TheConstants.{NUMBER_DIGITS}
+use Rattle.sg_cli.specs.declared.TheConstants.{SEED_DIGITS}
 use Rattle.sg_cli.specs.Words.{AreIndexTexts, AreBoxTexts, AreGridTexts, IsSeedText}
 use Rattle.sg_cli.proofs.ThreeWords.{SaidOrNone}
 use Rattle.sg_cli.proofs.ThreeNumbers.{one_of_numbers, numbers_or_none}

@@ -19,7 +19,8 @@ use Rattle.basis_change.specs.declared.TheConstants.{MAX_CELL}
 use Rattle.triplet_text.specs.Points.{ArePointTexts}
 use Rattle.triplet_text.specs.Grammar.{IsTriplet}
 use Rattle.triplet_text.specs.Integers.{IsNatural, IsInteger}
-use Rattle.sg_cli.specs.declared.TheConstants.{NUMBER_DIGITS, CELL_DIGITS, SEED_DIGITS}
+use Rattle.data_lines.specs.declared.number.TheConstants.{NUMBER_DIGITS}
+use Rattle.sg_cli.specs.declared.TheConstants.{CELL_DIGITS, SEED_DIGITS}
 use Rattle.sg_cli.specs.declared.words.Command.{Command}
 use Rattle.sg_cli.specs.declared.words.Command.TheVariants as command
 use Rattle.sg_cli.specs.declared.words.Name.{Name}

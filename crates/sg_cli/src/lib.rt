@@ -22,9 +22,6 @@ pub use fault::Fault;
 pub use laws::{answer_is_unique, answer_of_one_group, rows_of_one_group, some_answer};
 pub use words::{Command, Input, read_words};
 
-/// The most digits that a whole number among the words has.
-pub const NUMBER_DIGITS: usize = 9;
-
 /// The most digits that the denominator of a change of the cell has among the words.
 pub const CELL_DIGITS: usize = 2;
 

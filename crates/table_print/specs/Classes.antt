@@ -1,6 +1,5 @@
 -- The lines of the commands `index` and `refl`: an index, its class size, how many operators fix it, and its mark.
 use Rattle.std.specs.Prelude.{◌≡◌, ℕ, List, [], ◌∷◌, ◌++◌, decimal, codes}
-use Rattle.std.specs.Fmt.{signed_decimal}
 use Rattle.lattice_algebra.specs.Operator.{Operator}
 use Rattle.phase_rules.specs.declared.pairs.Pairs.{Pairs}
 use Rattle.phase_rules.specs.declared.parts.Mark.{Mark}
@@ -12,6 +11,7 @@ use Rattle.reflections.specs.ClassLists.{IsLine, IsClassList}
 use Rattle.reflections.specs.Walks.{Walk, IsWalk}
 use Rattle.triplet_text.specs.Bytes.{line_feed, space}
 use Rattle.page_print.specs.Lines.{AreLines}
+use Rattle.page_print.specs.Parts.{index_text}
 
 -- a restricted phase is printed by its number
 abbrev pub mark_text : Mark → List ℕ
@@ -19,12 +19,8 @@ mark_text Absent = codes "absent"
 mark_text Free = codes "free"
 mark_text (Phase s) = codes "phase " ++ decimal s
 
--- three whole numbers
-abbrev pub row_text : Row → List ℕ
-row_text h = signed_decimal h.h ++ space ∷ signed_decimal h.k ++ space ∷ signed_decimal h.l
-
 abbrev pub class_text : ClassLine → List ℕ
-class_text line = row_text line.index ++ space ∷ decimal line.size ++ space ∷ decimal line.fixers ++ space ∷ mark_text line.mark ++ line_feed ∷ []
+class_text line = index_text line.index.h line.index.k line.index.l ++ space ∷ decimal line.size ++ space ∷ decimal line.fixers ++ space ∷ mark_text line.mark ++ line_feed ∷ []
 
 -- the text of a line of a class list
 abbrev pub IsClassText : ClassLine → List ℕ → Type 0

@@ -1,15 +1,16 @@
 ghost use Rattle.std.specs.Prelude.{◌≡◌, ◌≤◌, ◌+◌, ◌++◌, [], List, OnOk, length};
+ghost use Rattle.page_print.specs.declared.index.TheConstants.{INDEX_TEXT};
 ghost use Rattle.page_print.specs.declared.page.TheConstants.{PAGE_ROOM};
 ghost use Rattle.page_print.specs.Lines.{AddsSuch};
 ghost use Rattle.page_print.specs.Printing.{Prints, GathersText};
 ghost use Rattle.reflections.specs.declared.line.ClassLine.{ClassLine};
 ghost use Rattle.reflections.specs.Walks.{IsWalk};
-ghost use Rattle.table_print.specs.Classes.{mark_text, row_text, IsClassText, IsIndexText, IsBoxText, IsOver};
-ghost use Rattle.table_print.specs.declared.classes.TheConstants.{MARK_TEXT, ROW_TEXT, CLASS_LINE};
+ghost use Rattle.table_print.specs.Classes.{mark_text, IsClassText, IsIndexText, IsBoxText, IsOver};
+ghost use Rattle.table_print.specs.declared.classes.TheConstants.{MARK_TEXT, CLASS_LINE};
 
 use group_closure::Group;
 use itoa::Buffer;
-use page_print::{Page, make_room, put_page};
+use page_print::{INDEX_TEXT, Page, make_room, push_index, put_page};
 use phase_rules::parts::Mark;
 use phase_rules::{Index, Pairs, class_size, fixers, mark};
 use reflections::{ClassLine, ClassList};
@@ -18,11 +19,8 @@ use sg_io::{Sink, SinkStop};
 /// The most bytes that a mark has: that of a phase, a word, a blank and a number of at most three digits.
 const MARK_TEXT: usize = 9;
 
-/// The most bytes that an index has: three numbers of 32 bits and two blanks.
-const ROW_TEXT: usize = 35;
-
-/// The most bytes that a line has: these, two counts of at most five digits, three blanks and the line feed.
-pub const CLASS_LINE: usize = ROW_TEXT + MARK_TEXT + 14;
+/// The most bytes that a line has: an index, its mark, two counts of at most five digits, three blanks and the line feed.
+pub const CLASS_LINE: usize = INDEX_TEXT + MARK_TEXT + 14;
 
 /// Writes the line of the command `index`: the index, its class size, how many operators fix it, and its mark. It takes no
 /// memory. After an Err a prefix of the line is written.
@@ -91,7 +89,7 @@ fn push_class(line: &ClassLine, page: &mut Page)
     requires { length page.old + CLASS_LINE ≤ PAGE_ROOM }
     ensures { AddsSuch (IsClassText line.now) page.old page.new }
 {
-    push_row(&line.index, page);
+    push_index(line.index.h, line.index.k, line.index.l, page);
     page.push(b" ");
     page.push(Buffer::new().format(line.size).as_bytes());
     page.push(b" ");
@@ -99,19 +97,6 @@ fn push_class(line: &ClassLine, page: &mut Page)
     page.push(b" ");
     push_mark(line.mark, page);
     page.push(b"\n");
-}
-
-fn push_row(index: &Index, page: &mut Page)
-    requires { length page.old + ROW_TEXT ≤ PAGE_ROOM }
-    ensures text { page.new ≡ page.old ++ row_text index.now }
-    ensures short { length page.new ≤ length page.old + ROW_TEXT }
-{
-    let mut buffer = Buffer::new();
-    page.push(buffer.format(index.h).as_bytes());
-    page.push(b" ");
-    page.push(buffer.format(index.k).as_bytes());
-    page.push(b" ");
-    page.push(buffer.format(index.l).as_bytes());
 }
 
 fn push_mark(mark: Mark, page: &mut Page)

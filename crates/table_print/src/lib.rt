@@ -13,7 +13,6 @@ mod grids;
 mod laws;
 mod operators;
 mod params;
-mod parts;
 mod rows;
 mod sample;
 mod sites;

@@ -38,16 +38,16 @@ impl Listed for OperatorLines<'_> {
 
     ghost fits = { Prim.search rules };
 
-    fn len(&self) -> u16 {
-        self.group.len()
+    fn len(&self) -> u32 {
+        u32::from(self.group.len())
     }
 
     fn longest_line(&self) -> usize {
         OPERATOR_LINE
     }
 
-    fn push_line(&self, at: u16, page: &mut Page) {
-        prove!(at < self.group.len());
+    fn push_line(&self, at: u32, page: &mut Page) {
+        prove!(at < self.group.len() as u32);
         push_operator(&self.group.op(at as u8), page);
     }
 }

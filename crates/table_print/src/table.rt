@@ -10,11 +10,10 @@ ghost use Rattle.table_print.specs.Table.{IsOperatorPart, IsTypePart, IsRowPart,
 
 use crate::classes::{CLASS_LINE, put_classes};
 use crate::operators::{OPERATOR_LINE, OperatorLines};
-use crate::parts::{counted, put_heading};
 use crate::rows::put_rows;
 use crate::types::{TYPE_LINE, TypeLines};
 use group_closure::Group;
-use page_print::{Page, put_listed, put_page};
+use page_print::{Page, counted, put_heading, put_listed, put_page};
 use reflections::ClassList;
 use sg_io::{Sink, SinkStop};
 use wyckoff_rows::parts::Rows;

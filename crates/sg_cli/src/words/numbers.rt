@@ -5,10 +5,11 @@ ghost use Rattle.phase_rules.specs.declared.TheConstants.{MAX_INDEX as INDEX_LIM
 ghost use Rattle.phase_rules.specs.Rows.{Row};
 ghost use Rattle.reflections.specs.Boxes.{Box};
 ghost use Rattle.grid_tags.specs.Grids as grids;
-ghost use Rattle.sg_cli.specs.declared.TheConstants.{NUMBER_DIGITS as NUMBER_LENGTH};
+ghost use Rattle.data_lines.specs.declared.number.TheConstants.{NUMBER_DIGITS as NUMBER_LENGTH};
 ghost use Rattle.sg_cli.specs.Words.{Given, HasArguments, OfIndex, OfBox, IsOne, AreThree, IsSeedText, AreIndexTexts, AreBoxTexts, AreGridTexts, are_apart, three_with, texts};
 
-use crate::{NUMBER_DIGITS, SEED_DIGITS};
+use crate::SEED_DIGITS;
+use data_lines::NUMBER_DIGITS;
 use grid_tags::GridSize;
 use phase_rules::{Index, MAX_INDEX, Pairs};
 use reflections::BoxSize;

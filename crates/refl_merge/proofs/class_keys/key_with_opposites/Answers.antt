@@ -4,7 +4,7 @@ use Rattle.phase_rules.specs.declared.pairs.Pairs.TheVariants.{Friedel}
 use Rattle.phase_rules.proofs.Opposites.{have_opposites}
 use Rattle.phase_rules.specs.Rows.{row_of}
 use Rattle.refl_merge.specs.Keys.{IsClassKey}
-use Rattle.refl_merge.proofs.Greatest.{key_first, key_more, key_by_half, greater_row}
+use Rattle.refl_merge.proofs.Greatest.{key_first, key_more, key_by_half}
 use Rattle.refl_merge.proofs.class_keys.key_with_opposites.Goals as goal
 
 pub runs-init : goal.runs-init
@@ -20,9 +20,8 @@ pub runs-preserved : goal.runs-preserved
 runs-preserved c = record {
   within = c.run_end-i-in-runs.ensures.within;
   three = search rules;
-  key = key_more Friedel c.args.group.now c.args.index.now c.runs.i c.run_end-i-in-runs.result c.op-in-runs.result _ _ _ c.run_end-i-in-runs.ensures.beyond c.op-in-runs.ensures.value
-      (record { first = c.run_end-i-in-runs.ensures.first; run = c.run_end-i-in-runs.ensures.run }) c.runs.invariant.key c.greatest_image-image.ensures
-      (greater_row c.runs.key c.greatest_image-image.result c.greater-greatest.result c.runs.invariant.three (search rules) c.greater-greatest.ensures);
+  key = key_more Friedel c.args.group.now c.args.index.now c.runs.i c.run_end-i-in-runs.result c.op-in-runs.result _ _ c.run_end-i-in-runs.ensures.beyond c.op-in-runs.ensures.value
+      (record { first = c.run_end-i-in-runs.ensures.first; run = c.run_end-i-in-runs.ensures.run }) c.runs.invariant.key c.key_with-greatest.ensures;
 }
 
 pub returns : goal.returns
