@@ -74,16 +74,56 @@ static uint8_t close_text(sg_group *group, const char *text, uint32_t *line)
     return sg_group_close((const uint8_t *)text, strlen(text), group, line);
 }
 
+/* Each array of questions is refused as a whole, and nothing is written. */
+static void refuse_arrays(sg_group *group)
+{
+    const sg_index indices[3] = {{0, 3, 0}, {1, 1, 1}, {0, -10001, 0}};
+    const sg_point points[3] = {{{0, 1}, {1, 2}, {0, 1}}, {{1, 1}, {1, 0}, {1, 1}}, {{1, 1000001}, {0, 1}, {0, 1}}};
+    sg_reflection_marks marks[3] = {{7, 7, 7, 7}, {7, 7, 7, 7}, {7, 7, 7, 7}};
+    sg_site_counts sites[3] = {{7, 7}, {7, 7}, {7, 7}};
+    sg_operator ops[SG_MAX_ORDER + 1];
+    sg_operator_type types[SG_MAX_ORDER + 1];
+    size_t places[3] = {7, 7, 7}, bad = 77;
+    ops[0].w[0] = 7;
+    types[0].order = 7;
+    expect("lengths", sg_reflections(group, true, indices, 2, marks, 3, &bad), SG_WRONG_COUNT);
+    expect("lengths", sg_sites(group, points, 3, sites, 2, &bad), SG_WRONG_COUNT);
+    expect("lengths", sg_fit(group, points, 1, places, 0, &bad), SG_WRONG_COUNT);
+    expect("lengths", sg_group_operators(group, ops, SG_MAX_ORDER + 1), sg_group_order(group) == 0 ? SG_EMPTY : SG_WRONG_COUNT);
+    expect("lengths", sg_group_types(group, types, 0), sg_group_order(group) == 0 ? SG_EMPTY : SG_WRONG_COUNT);
+    expect("no place", (long)bad, 77);
+    expect("range", sg_reflections(group, true, indices, 3, marks, 3, &bad), SG_OUT_OF_RANGE);
+    expect("place of an index", (long)bad, 2);
+    expect("range", sg_sites(group, points, 3, sites, 3, &bad), SG_OUT_OF_RANGE);
+    expect("place of a point", (long)bad, 1);
+    bad = 77;
+    expect("range", sg_fit(group, points + 2, 1, places, 1, &bad), SG_OUT_OF_RANGE);
+    expect("place of a point", (long)bad, 0);
+    expect("unwritten", marks[0].mark == 7 && sites[0].order == 7 && places[0] == 7 && ops[0].w[0] == 7 && types[0].order == 7, 1);
+}
+
 static void ask_nothing(sg_group *group)
 {
     sg_operator op;
+    sg_operator_type type;
+    sg_row row;
     sg_reflection_marks marks;
     sg_site_counts site;
+    size_t place, count = 77;
+    const sg_index index = {0, 0, 0};
     const sg_point origin = {{0, 1}, {0, 1}, {0, 1}};
     expect("order of none", sg_group_order(group), 0);
     expect("operator of none", sg_group_operator(group, 0, &op), SG_EMPTY);
     expect("reflection of none", sg_reflection(group, 0, 0, 0, true, &marks), SG_EMPTY);
     expect("site of none", sg_site(group, &origin, &site), SG_EMPTY);
+    expect("reflections of none", sg_reflections(group, true, &index, 0, &marks, 0, &count), SG_EMPTY);
+    expect("sites of none", sg_sites(group, &origin, 1, &site, 1, &count), SG_EMPTY);
+    expect("rows of none", sg_fit(group, &origin, 1, &place, 1, &count), SG_EMPTY);
+    expect("operators of none", sg_group_operators(group, &op, 1), SG_EMPTY);
+    expect("types of none", sg_group_types(group, &type, 1), SG_EMPTY);
+    expect("count of none", sg_rows_count(group, &count), SG_EMPTY);
+    expect("rows of none", sg_rows(group, &row, 1), SG_EMPTY);
+    refuse_arrays(group);
 }
 
 static void refuse(sg_group *group, const char *text, uint8_t status, uint32_t wanted)
@@ -128,12 +168,72 @@ static void ask_p21c(sg_group *group)
     expect("far", sg_site(group, &far, &site), SG_OUT_OF_RANGE);
 }
 
+/* The same group, all at once. The types and the rows are those of its worked examples. */
+static void ask_p21c_arrays(sg_group *group)
+{
+    static const int32_t axes[4][3] = {{0, 0, 0}, {0, 1, 0}, {0, 1, 0}, {0, 0, 0}};
+    static const int32_t parts[4][3] = {{0, 0, 0}, {0, 0, 1}, {0, 1, 0}, {0, 0, 0}};
+    static const uint16_t orders[4] = {1, 2, 2, 1}, proper[4] = {1, 0, 1, 0};
+    const sg_index indices[4] = {{0, 3, 0}, {0, 2, 0}, {1, 1, 1}, {-10000, 10000, 10000}};
+    const sg_point points[3] = {{{0, 1}, {1, 2}, {0, 1}}, {{1, 10}, {1, 5}, {3, 10}}, {{5, 2}, {1, 2}, {1, 2}}};
+    const size_t fitted[3] = {2, 0, 3};
+    sg_operator ops[4], op;
+    sg_operator_type types[4];
+    sg_reflection_marks marks[4], mark;
+    sg_site_counts sites[3], site;
+    sg_row rows[5];
+    size_t places[3], count = 0, bad = 77, i;
+    int k;
+    expect("operators", sg_group_operators(group, ops, 4), SG_OK);
+    expect("types", sg_group_types(group, types, 4), SG_OK);
+    for (i = 0; i < 4; i++) {
+        expect("operator", sg_group_operator(group, (uint32_t)i, &op), SG_OK);
+        expect("same operator", memcmp(&op, &ops[i], sizeof op), 0);
+        expect("order of a type", types[i].order, orders[i]);
+        expect("proper", types[i].proper, proper[i]);
+        for (k = 0; k < 3; k++) {
+            expect("axis", types[i].axis[k], axes[i][k]);
+            expect("intrinsic part", 2 * types[i].intrinsic[k], parts[i][k] * types[i].denominator);
+        }
+    }
+    expect("reflections", sg_reflections(group, false, indices, 4, marks, 4, &bad), SG_OK);
+    for (i = 0; i < 4; i++) {
+        expect("reflection", sg_reflection(group, indices[i].h, indices[i].k, indices[i].l, false, &mark), SG_OK);
+        expect("same reflection", memcmp(&mark, &marks[i], sizeof mark), 0);
+    }
+    expect("reflections", sg_reflections(group, true, indices, 4, marks, 4, &bad), SG_OK);
+    expect("absent", marks[0].mark, SG_ABSENT);
+    expect("restricted", marks[1].mark, SG_RESTRICTED);
+    expect("class size", marks[2].class_size, 4);
+    expect("sites", sg_sites(group, points, 3, sites, 3, &bad), SG_OK);
+    for (i = 0; i < 3; i++) {
+        expect("site", sg_site(group, &points[i], &site), SG_OK);
+        expect("same site", memcmp(&site, &sites[i], sizeof site), 0);
+    }
+    expect("rows", sg_rows_count(group, &count), SG_OK);
+    expect("rows", (long)count, 5);
+    expect("other count", sg_rows(group, rows, 4), SG_WRONG_COUNT);
+    expect("rows", sg_rows(group, rows, 5), SG_OK);
+    for (i = 0; i < 5; i++)
+        expect("multiplicity", rows[i].multiplicity, i == 0 ? 4 : 2);
+    expect("general position", rows[0].m[0] == 4 && rows[0].m[1] == 0 && rows[0].m[4] == 4 && rows[0].m[8] == 4, 1);
+    expect("centre", rows[2].m[0] == 0 && rows[2].t[0] == 0 && rows[2].t[1] == 0 && rows[2].t[2] == 4 * SG_PARTS / 2, 1);
+    expect("fit", sg_fit(group, points, 3, places, 3, &bad), SG_OK);
+    for (i = 0; i < 3; i++)
+        expect("row", (long)places[i], (long)fitted[i]);
+    expect("fit of none", sg_fit(group, points, 0, places, 0, &bad), SG_OK);
+    expect("no place", (long)bad, 77);
+    refuse_arrays(group);
+}
+
 static int ask(void)
 {
     sg_group group = SG_NO_GROUP;
     ask_nothing(&group);
     ask_p21c(&group);
+    ask_p21c_arrays(&group);
     ask_p21c(&group);
+    ask_p21c_arrays(&group);
     refuse(&group, "x,y,z\n\nx,y\n", SG_UNREADABLE, 3);
     ask_p21c(&group);
     refuse(&group, "2x,y,z", SG_NOT_UNIMODULAR, 1);

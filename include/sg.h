@@ -27,7 +27,8 @@
  *    signal handler, or in the child that a process with several threads has forked.
  *
  * The library takes memory by malloc and gives all of it back before a call returns, but for what an sg_group holds, about
- * 47,000 bytes for each. It reads no file, writes none, and keeps nothing between calls.
+ * 47,000 bytes for each, and 64 for each of its rows where they were asked for. sg_group_free gives that back. The library reads
+ * no file, writes none, and keeps nothing else between calls.
  */
 #ifndef SG_H
 #define SG_H
@@ -39,6 +40,8 @@
 #ifdef __cplusplus
 extern "C" {
 #endif
+
+#define SG_VERSION "1.0.0"
 
 /* ---- Statuses: those of the program sg, and one more. */
 
@@ -53,7 +56,8 @@ enum {
     SG_NO_MEMORY = 9,      /* memory was wanted */
     SG_TOO_LONG = 10,      /* the input has more than SG_MAX_INPUT bytes */
     SG_BAD_DATA = 11,      /* a data line is none of the command */
-    SG_WRONG_COUNT = 12,   /* too many data lines, or another number of values than the grid has points */
+    SG_WRONG_COUNT = 12,   /* too many data lines, or another number of values than the grid has points; or an array is not as
+                              long as is said */
     SG_EMPTY = 13          /* the sg_group holds no group */
 };
 
@@ -62,6 +66,7 @@ enum {
 #define SG_PARTS 24                   /* a translation counts twenty-fourths of a cell */
 #define SG_MAX_ORDER 192              /* the most operators that a group has */
 #define SG_MAX_INPUT 1048576          /* the most bytes that an input has */
+#define SG_MAX_FAULT 160              /* room for the text of each fault */
 #define SG_MAX_INDEX 10000            /* the greatest size of h, k and l */
 #define SG_MAX_NUMERATOR 1000000000   /* the greatest size of a numerator of a coordinate */
 #define SG_MAX_DENOMINATOR 1000000    /* the greatest denominator of a coordinate; it is positive */
@@ -81,7 +86,7 @@ typedef struct {
  * The status is that of the program, which is never 3 or 4 here. With status 0 the answer is a text, which is put into
  * text. With any other but SG_NOT_TEXT the text of the fault, a line, is put into fault. As of snprintf, what has no room is
  * left out: lengths says how long the texts are, and a text is whole where that is at most its capacity. Behind a text, and
- * where there is none, a buffer stays as it was. No NUL is added. With SG_NO_MEMORY the text of the fault may be cut short.
+ * where there is none, a buffer stays as it was. No NUL is added. The text of a fault has at most SG_MAX_FAULT bytes.
  */
 uint8_t sg_answer(const uint8_t *words, size_t words_length, const uint8_t *input, size_t input_length,
                   uint8_t *text, size_t text_capacity, uint8_t *fault, size_t fault_capacity, sg_lengths *lengths);
@@ -115,11 +120,38 @@ typedef struct {
     int32_t t[3];
 } sg_operator;
 
+/* The type of an operator: that of its proper part, which is W or, where the determinant of W is -1, -W. */
+typedef struct {
+    int32_t intrinsic[3]; /* the intrinsic part, the translation along the axis or the plane, in parts of a cell: these */
+    int32_t denominator;  /* numbers over this one, which is positive and need not be the least */
+    int32_t axis[3];      /* what the proper part fixes, in whole multiples of the basis, without common divisor and with its */
+                          /* first number that is not 0 positive; or 0 0 0, where that is not one line */
+    uint16_t order;       /* of the proper part: 1, 2, 3, 4 or 6 */
+    bool proper;          /* whether the determinant of W is 1 */
+} sg_operator_type;
+
 /*
  * Writes the operator at this place, from 0: the identity, then the others by their matrices, descending, and those with one
  * matrix by their translations, ascending. Statuses: SG_OK, SG_OUT_OF_RANGE, SG_EMPTY.
  */
 uint8_t sg_group_operator(sg_group *group, uint32_t place, sg_operator *op);
+
+/*
+ * Write all operators, or their types, in this order. Each array has sg_group_order(group) elements, and its count says so.
+ * Where the status is not 0, nothing is written. Statuses: SG_OK, SG_WRONG_COUNT, SG_EMPTY.
+ */
+uint8_t sg_group_operators(sg_group *group, sg_operator *ops, size_t ops_count);
+uint8_t sg_group_types(sg_group *group, sg_operator_type *types, size_t types_count);
+
+/*
+ * ---- Arrays of questions.
+ *
+ * A call with an array of questions writes the answer of each to the same place of another array. Both have one length, which may
+ * be 0, and each count is that of the array before it; otherwise the status is SG_WRONG_COUNT. All questions are looked at before
+ * the first answer is written: where one is out of range, the status is SG_OUT_OF_RANGE, and bad is the place of the first such
+ * one, from 0. With another status bad stays as it was. Where the status is not 0, no answer is written.
+ * Statuses: SG_OK, SG_WRONG_COUNT, SG_OUT_OF_RANGE, SG_EMPTY; where several apply, the first of them but SG_OK.
+ */
 
 /* ---- Reflections. */
 
@@ -142,6 +174,17 @@ typedef struct {
  * h, k and l are at most SG_MAX_INDEX in size. Statuses: SG_OK, SG_OUT_OF_RANGE, SG_EMPTY.
  */
 uint8_t sg_reflection(sg_group *group, int32_t h, int32_t k, int32_t l, bool friedel, sg_reflection_marks *marks);
+
+/* The three numbers of an index. An array of them has the layout of an array of int32_t with three for each. */
+typedef struct {
+    int32_t h;
+    int32_t k;
+    int32_t l;
+} sg_index;
+
+/* The same for each index of an array. */
+uint8_t sg_reflections(sg_group *group, bool friedel, const sg_index *indices, size_t indices_count,
+                       sg_reflection_marks *marks, size_t marks_count, size_t *bad);
 
 /* ---- Points. */
 
@@ -166,6 +209,40 @@ typedef struct {
 
 /* Numerators and denominators are in the ranges above. Statuses: SG_OK, SG_OUT_OF_RANGE, SG_EMPTY. */
 uint8_t sg_site(sg_group *group, const sg_point *point, sg_site_counts *site);
+
+/* The same for each point of an array. */
+uint8_t sg_sites(sg_group *group, const sg_point *points, size_t points_count,
+                 sg_site_counts *sites, size_t sites_count, size_t *bad);
+
+/*
+ * ---- The table of Wyckoff positions.
+ *
+ * A call that needs the rows looks for them where the group has not been asked for them before, which takes a while for a large
+ * group; the sg_group then holds them too. Then the status may also be SG_NO_MEMORY, and nothing is written.
+ */
+
+/*
+ * A row: its points have so many images in a cell, and some image of each is M x + t, for some point x, with whole cells added.
+ * M is m / n, row by row, and t is t / (n * SG_PARTS) in parts of a cell, where n is sg_group_order(group).
+ */
+typedef struct {
+    int32_t m[9];
+    int32_t t[3];
+    uint16_t multiplicity;
+} sg_row;
+
+/* Writes how many rows there are. Statuses: SG_OK, SG_NO_MEMORY, SG_EMPTY. */
+uint8_t sg_rows_count(sg_group *group, size_t *count);
+
+/*
+ * Writes the rows, those of more points first. The array has as many elements as there are rows, and its count says so.
+ * Statuses: SG_OK, SG_NO_MEMORY, SG_WRONG_COUNT, SG_EMPTY.
+ */
+uint8_t sg_rows(sg_group *group, sg_row *rows, size_t rows_count);
+
+/* For each point of an array, writes the place of the one row that it fits, from 0. */
+uint8_t sg_fit(sg_group *group, const sg_point *points, size_t points_count,
+               size_t *places, size_t places_count, size_t *bad);
 
 #ifdef __cplusplus
 }

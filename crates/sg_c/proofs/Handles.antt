@@ -28,7 +28,7 @@ use Rattle.core.specs.Ptr.{points_to}
 use Rattle.core.specs.declared.option.Option.{Option}
 use Rattle.core.specs.declared.option.Option.TheVariants.{None, Some}
 use Rattle.std_alloc.specs.Box.Ownership.{box_owns}
-use Rattle.group_closure.specs.contracts.group.Group.{the_row}
+use Rattle.sg_c.specs.contracts.kept.Kept.{the_row}
 use Rattle.lattice_algebra.specs.Operator.{Operator}
 use Rattle.sg_c.specs.Held.{held}
 use Rattle.sg_c.specs.contracts.handle.Handle as handle

@@ -1,4 +1,5 @@
 mod Cuts
+mod Told
 mod WordSteps
 mod Values
 mod Handles

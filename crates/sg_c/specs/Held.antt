@@ -6,7 +6,7 @@ use Rattle.std.specs.declared.alloc.Global.{Global}
 use Rattle.std.specs.contracts.impls.GlobalAllocator.TheImpl.{ghosts}
 use Rattle.std_alloc.specs.Box.Ownership.{box_owns}
 use Rattle.lattice_algebra.specs.Operator.{Operator}
-use Rattle.group_closure.specs.contracts.group.Group.{the_row}
+use Rattle.sg_c.specs.contracts.kept.Kept.{the_row}
 
 -- the block of a box with the group of these members; or no block, and then the pointer is null
 abbrev pub held : Global → Ptr → Option (List Operator) → Fml

@@ -7,6 +7,7 @@ ghost use Rattle.triplet_text.specs.Lines.{lines_of};
 ghost use Rattle.sg_c.specs.Texts.{Shows, IsGivenText, IsGivenFault};
 
 use crate::slice_source::SliceSource;
+use crate::text_sink::TextSink;
 use crate::words::{WordsFault, cut_words};
 use sg_cli::{Fault, run};
 use sg_io::NoFailSink;
@@ -88,7 +89,7 @@ fn give_answer(
 {
     let mut source = SliceSource::new(input);
     let mut out = NoFailSink::new(alloc, u32::MAX);
-    let mut err = NoFailSink::new(alloc, u32::MAX);
+    let mut err = TextSink::new();
     let status = run(alloc, words, &mut source, &mut out, &mut err);
     *lengths = if status == 0 {
         Lengths {

@@ -3,11 +3,13 @@ ghost use Rattle.lattice_algebra.specs.Operator as lattice;
 ghost use Rattle.sg_cli.specs.declared.words.Input.TheVariants.{Operators};
 ghost use Rattle.sg_cli.specs.Run.{IsGroupOf};
 ghost use Rattle.sg_c.specs.Groups.{IsClosingFault, IsRefusedAs, line_of};
-ghost use Rattle.sg_c.specs.Questions.{IsOperatorAt};
+ghost use Rattle.sg_c.specs.Members.{IsOperatorOf, IsOperatorAt};
 ghost use Rattle.sg_c.specs.declared.TheConstants.{OUT_OF_RANGE, EMPTY};
 
 use crate::handle::Handle;
+use crate::kept::Kept;
 use crate::{EMPTY, OUT_OF_RANGE};
+use exact_ops::Op;
 use group_closure::Group;
 use sg_cli::{Fault, MAX_INPUT};
 use std::alloc::Global;
@@ -21,8 +23,20 @@ pub struct Operator {
     pub t: [i32; 3],
 }
 
+impl Operator {
+    /// The numbers of a member.
+    pub fn of(member: &Op) -> Operator
+        ensures { IsOperatorOf member.now result }
+    {
+        Operator {
+            w: member.w(),
+            t: member.t(),
+        }
+    }
+}
+
 /// The group that the operators of the input generate. The input is as that of the program: a triplet a line.
-fn close_text(alloc: Global, text: &[u8]) -> Result<Box<Group>, Fault>
+fn close_text(alloc: Global, text: &[u8]) -> Result<Box<Kept>, Fault>
     ensures { MatchResult result (λ group. IsGroupOf Operators text.now group.value)
         (IsClosingFault text.now) }
 {
@@ -31,7 +45,7 @@ fn close_text(alloc: Global, text: &[u8]) -> Result<Box<Group>, Fault>
     }
     let list = read_lines(alloc, text)?;
     let group = Group::close(alloc, &list)?;
-    match Box::new(alloc, group) {
+    match Box::new(alloc, Kept::new(group)) {
         Ok(group) => Ok(group),
         Err(_) => Err(Fault::NoMemory),
     }
@@ -93,7 +107,7 @@ pub extern "C" fn sg_group_order(alloc: Global, group: &mut Handle) -> u16
     let Some(held) = group.take(alloc) else {
         return 0;
     };
-    let order = held.len();
+    let order = held.group().len();
     group.put(held);
     order
 }
@@ -106,10 +120,7 @@ fn operator_at(group: &Group, place: u32) -> Option<Operator>
         return None;
     }
     let member = group.op(place as u8);
-    Some(Operator {
-        w: member.w(),
-        t: member.t(),
-    })
+    Some(Operator::of(&member))
 }
 
 /// Writes the operator at this place, counted from 0.
@@ -132,7 +143,7 @@ pub extern "C" fn sg_group_operator(
     let Some(held) = group.take(alloc) else {
         return EMPTY;
     };
-    let found = operator_at(&held, place);
+    let found = operator_at(held.group(), place);
     group.put(held);
     match found {
         Some(found) => {

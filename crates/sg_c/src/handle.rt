@@ -3,8 +3,8 @@ ghost use Rattle.std.specs.Option.{MatchOption};
 ghost use Rattle.lattice_algebra.specs.Operator.{Operator};
 ghost use Rattle.sg_c.specs.Held.{held};
 
+use crate::kept::Kept;
 use crate::loose::Loose;
-use group_closure::Group;
 use std::alloc::Global;
 use std::marker::Model;
 use std::mem;
@@ -38,7 +38,7 @@ impl Handle {
         }
     }
 
-    fn of(group: Loose<Group, Global>) -> Handle
+    fn of(group: Loose<Kept, Global>) -> Handle
         ensures { result.group ≡ Some group.value }
     {
         let Loose { at, alloc } = group;
@@ -48,7 +48,7 @@ impl Handle {
         }
     }
 
-    fn into_loose(self) -> Option<Loose<Group, Global>>
+    fn into_loose(self) -> Option<Loose<Kept, Global>>
         ensures { MatchOption result (self.group ≡ None) (λ group. self.group ≡ Some group.value) }
     {
         let Handle { at, alloc } = self;
@@ -56,14 +56,14 @@ impl Handle {
             None
         } else {
             Some(Loose {
-                at: at as *mut Group,
+                at: at as *mut Kept,
                 alloc,
             })
         }
     }
 
     /// The group that is held. The handle then holds none.
-    pub fn take(&mut self, alloc: Global) -> Option<Box<Group>>
+    pub fn take(&mut self, alloc: Global) -> Option<Box<Kept>>
         ensures taken { MatchOption result (self.old.group ≡ None)
             (λ group. self.old.group ≡ Some group.value) }
         ensures empty { self.new.group ≡ None }
@@ -76,7 +76,7 @@ impl Handle {
     }
 
     /// Holds the group. One that was held before is freed.
-    pub fn put(&mut self, group: Box<Group>)
+    pub fn put(&mut self, group: Box<Kept>)
         ensures { self.new.group ≡ Some group.value }
     {
         let held = mem::replace(self, Handle::of(Loose::of(group)));

@@ -8,15 +8,26 @@
 #![tactic(auto)]
 
 mod answer;
+mod arrays;
 mod group;
 mod handle;
+mod kept;
 mod loose;
+mod members;
+mod positions;
 mod questions;
 mod slice_source;
+mod text_sink;
 mod words;
 
 /// The status of a call that asks for what is out of range, as that of words that are no command in range.
 pub const OUT_OF_RANGE: u8 = 2;
+
+/// The status of a call that wanted memory, as that of the program.
+pub const NO_MEMORY: u8 = 9;
+
+/// The status of a call whose arrays are not of one length, as that of a wrong number of data lines.
+pub const WRONG_COUNT: u8 = 12;
 
 /// The status of a question about a handle that holds no group.
 pub const EMPTY: u8 = 13;

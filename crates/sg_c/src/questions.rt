@@ -1,10 +1,17 @@
-ghost use Rattle.std.specs.Prelude.{◌≡◌, ◌≢◌, ◌↔◌, None, IfSome};
+ghost use Rattle.std.specs.Prelude.{◌≡◌, ◌≢◌, ◌↔◌, None, IfSome, IsSome, List, length};
+ghost use Rattle.lattice_algebra.specs.Map.{Map};
 ghost use Rattle.lattice_algebra.specs.Operator.{AreWithin};
-ghost use Rattle.exact_ops.specs.Points.{AreCoordinatesInRange};
+ghost use Rattle.lattice_algebra.specs.Point as rational;
+ghost use Rattle.exact_ops.specs.declared.TheConstants.{UNIT};
+ghost use Rattle.exact_ops.specs.Numbers.{point_in};
+ghost use Rattle.exact_ops.specs.Points.{AreCoordinatesInRange, HasCoordinates};
+ghost use Rattle.space_groups.specs.Lists.{IsSiteList, IsOrbitList};
 ghost use Rattle.phase_rules.specs.declared.TheConstants.{MAX_INDEX};
-ghost use Rattle.sg_c.specs.Questions.{IsMarkedAs, IsReflection, IsSite, pairs_in, pairs_of};
+ghost use Rattle.sg_c.specs.Arrays.{IsEachAnswered};
+ghost use Rattle.sg_c.specs.Questions.{IsMarkedAs, IsReflection, IsReflectionAt, IsIndexInRange, IsSite, IsSiteAt, IsPointInRange, pairs_in, pairs_of};
 ghost use Rattle.sg_c.specs.declared.TheConstants.{OUT_OF_RANGE, EMPTY};
 
+use crate::arrays::{Asking, ask_each};
 use crate::handle::Handle;
 use crate::{EMPTY, OUT_OF_RANGE};
 use exact_ops::Point;
@@ -24,6 +31,15 @@ const RESTRICTED: u8 = 1;
 
 /// A systematically absent reflection.
 const ABSENT: u8 = 2;
+
+/// The three numbers of an index, in range or not.
+#[repr(C)]
+#[derive(Clone, Copy)]
+pub struct IndexNumbers {
+    pub h: i32,
+    pub k: i32,
+    pub l: i32,
+}
 
 /// What symmetry says of a reflection: the size of its class, how many operators (W, t) have h W = h, and whether it is absent
 /// or restricted. The phase of a restricted one is so many times 180 / `UNIT` degrees, or 180 degrees further; otherwise it is 0.
@@ -84,6 +100,16 @@ fn code_of(mark: Mark) -> (u8, u8)
     }
 }
 
+fn pairs_of(friedel: bool) -> Pairs
+    ensures { result ≡ pairs_of friedel }
+{
+    if friedel {
+        Pairs::Friedel
+    } else {
+        Pairs::Apart
+    }
+}
+
 /// Writes what symmetry says of the reflection, with Friedel's law where it is asked for.
 #[unsafe(no_mangle)]
 pub extern "C" fn sg_reflection(
@@ -108,17 +134,80 @@ pub extern "C" fn sg_reflection(
     let Some(index) = Index::of(h, k, l) else {
         return OUT_OF_RANGE;
     };
-    let pairs = if friedel {
-        Pairs::Friedel
-    } else {
-        Pairs::Apart
-    };
+    let pairs = pairs_of(friedel);
     let Some(held) = group.take(alloc) else {
         return EMPTY;
     };
-    *reflection = symmetry_of(&held, &index, pairs);
+    *reflection = symmetry_of(held.group(), &index, pairs);
     group.put(held);
     0
+}
+
+/// Asks what symmetry says of reflections.
+#[derive(Clone, Copy)]
+struct AskReflection {
+    pairs: Pairs,
+}
+
+impl Asking for AskReflection {
+    type Question = IndexNumbers;
+
+    type Answer = Reflection;
+
+    ghost can_ask = { IsIndexInRange };
+
+    ghost is_answer = { λ asking members index r. IsReflectionAt asking.pairs members index r };
+
+    fn can_ask(index: &IndexNumbers) -> bool {
+        Index::of(index.h, index.k, index.l).is_some()
+    }
+
+    fn answer(&self, group: &Group, index: &IndexNumbers) -> Reflection {
+        let IndexNumbers { h, k, l } = *index;
+        symmetry_of(group, &Index { h, k, l }, self.pairs)
+    }
+}
+
+/// Writes what symmetry says of each reflection at its place, with Friedel's law where it is asked for.
+#[unsafe(no_mangle)]
+pub extern "C" fn sg_reflections(
+    alloc: Global,
+    group: &mut Handle,
+    friedel: bool,
+    indices: &[IndexNumbers],
+    reflections: &mut [Reflection],
+    bad: &mut usize,
+) -> u8
+    ensures answered { IsEachAnswered IsIndexInRange (IsReflectionAt (pairs_of friedel))
+        group.old.group indices.now reflections.old reflections.new bad.old bad.new result }
+    ensures same { group.new.group ≡ group.old.group }
+{
+    let asking = AskReflection {
+        pairs: pairs_of(friedel),
+    };
+    ask_each(alloc, group, &asking, indices, reflections, bad)
+}
+
+/// The point with these coordinates. None exactly where they are out of range.
+pub fn point_of(point: &Coordinates) -> Option<Point>
+    ensures some { IsSome result ↔ AreCoordinatesInRange (pairs_in point.now) }
+    ensures value { IfSome result (λ p. HasCoordinates (pairs_in point.now) (point_in p)) }
+{
+    let Coordinates { x, y, z } = *point;
+    Point::of_coords([(x.n, x.d), (y.n, y.d), (z.n, z.d)])
+}
+
+fn site_of(group: &Group, point: &Point) -> Site
+    ensures order { (list : List Map)
+        → IsSiteList UNIT group.now (point_in point.now) list → result.order ≡ length list }
+    ensures multiplicity { (list : List rational.Point)
+        → IsOrbitList UNIT group.now (point_in point.now) list
+        → result.multiplicity ≡ length list }
+{
+    Site {
+        order: order_at(group, point),
+        multiplicity: multiplicity(group, point),
+    }
 }
 
 /// Writes the order of the site-symmetry group of the point and how many points its orbit has in a cell.
@@ -139,17 +228,51 @@ pub extern "C" fn sg_site(
     ensures unwritten { result ≢ 0 → site.new ≡ site.old }
     ensures same { group.new.group ≡ group.old.group }
 {
-    let Coordinates { x, y, z } = *point;
-    let Some(point) = Point::of_coords([(x.n, x.d), (y.n, y.d), (z.n, z.d)]) else {
+    let Some(point) = point_of(point) else {
         return OUT_OF_RANGE;
     };
     let Some(held) = group.take(alloc) else {
         return EMPTY;
     };
-    *site = Site {
-        order: order_at(&held, &point),
-        multiplicity: multiplicity(&held, &point),
-    };
+    *site = site_of(held.group(), &point);
     group.put(held);
     0
+}
+
+/// Asks about the site symmetry of points.
+#[derive(Clone, Copy)]
+struct AskSite;
+
+impl Asking for AskSite {
+    type Question = Coordinates;
+
+    type Answer = Site;
+
+    ghost can_ask = { IsPointInRange };
+
+    ghost is_answer = { λ asking. IsSiteAt };
+
+    fn can_ask(point: &Coordinates) -> bool {
+        point_of(point).is_some()
+    }
+
+    fn answer(&self, group: &Group, point: &Coordinates) -> Site {
+        site_of(group, &point_of(point).unwrap())
+    }
+}
+
+/// Writes the order of the site-symmetry group of each point, and how many points its orbit has in a cell, at its place.
+#[unsafe(no_mangle)]
+pub extern "C" fn sg_sites(
+    alloc: Global,
+    group: &mut Handle,
+    points: &[Coordinates],
+    sites: &mut [Site],
+    bad: &mut usize,
+) -> u8
+    ensures answered { IsEachAnswered IsPointInRange IsSiteAt
+        group.old.group points.now sites.old sites.new bad.old bad.new result }
+    ensures same { group.new.group ≡ group.old.group }
+{
+    ask_each(alloc, group, &AskSite, points, sites, bad)
 }

@@ -14,13 +14,13 @@ use Rattle.std.proofs.alloc.Global.TheSendSync as heap
 use Rattle.std.proofs.Crossing.{frees}
 use Rattle.std_alloc.proofs.SendSync.{lies, quiet}
 use Rattle.lattice_algebra.specs.Operator.{Operator}
-use Rattle.group_closure.specs.contracts.group.Group as group
-use Rattle.group_closure.proofs.group.Group.TheSendSync.{the_send as group_send}
+use Rattle.sg_c.specs.contracts.kept.Kept as kept
+use Rattle.sg_c.proofs.kept.Kept.TheSendSync.{the_send as kept_send}
 use Rattle.sg_c.specs.Held.{held}
 use Rattle.sg_c.specs.contracts.handle.Handle.{the_type, the_row}
 
 held_keyless : (alloc : Global) (at : Ptr) (members : Option (List Operator)) → Keyless (held alloc at members)
-held_keyless alloc at (Some members) = (lies group.the_row group_send at members, frees.frees alloc (raw (lone (group.the_row).mir)) at)
+held_keyless alloc at (Some members) = (lies kept.the_row kept_send at members, frees.frees alloc (raw (lone (kept.the_row).mir)) at)
 held_keyless alloc at None = tt
 
 pub send : IsSend the_row

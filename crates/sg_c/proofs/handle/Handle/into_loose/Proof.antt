@@ -27,7 +27,7 @@ use Rattle.std.proofs.alloc.Global.TheLaws as heap_laws
 use Rattle.std.specs.contracts.impls.GlobalAllocator.TheImpl.{ghosts}
 use Rattle.std_alloc.proofs.ResultValues.{and_tt}
 use Rattle.std.proofs.raw_atomic.Walks.{proved_at, leaves}
-use Rattle.group_closure.specs.contracts.group.Group.{the_row}
+use Rattle.sg_c.specs.contracts.kept.Kept.{the_row}
 use Rattle.sg_c.proofs.Values.{both, Loose, loose_good, loose_in}
 use Rattle.sg_c.proofs.Handles.{Z, Handle, handle_good, handle_out, either_held}
 use Rattle.sg_c.specs.contracts.handle.Handle.into_loose.{ended, clauses}

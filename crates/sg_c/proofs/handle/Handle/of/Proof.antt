@@ -19,7 +19,7 @@ use denote.Triple.Walked.{Stays, stay_dropped, walk_of, Goes-dropped}
 use Rattle.std.proofs.raw_atomic.Walks.{proved_at, leaves}
 use Rattle.std.proofs.alloc.Global.TheLaws as heap_laws
 use Rattle.std.specs.contracts.impls.GlobalAllocator.TheImpl.{ghosts}
-use Rattle.group_closure.specs.contracts.group.Group.{the_row}
+use Rattle.sg_c.specs.contracts.kept.Kept.{the_row}
 use Rattle.sg_c.proofs.Values.{both, Loose, loose_good, loose_out}
 use Rattle.sg_c.proofs.Handles.{Z, Handle, handle_good, handle_in}
 use Rattle.sg_c.specs.contracts.handle.Handle.of.{ended, clauses}
