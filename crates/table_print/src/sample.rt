@@ -7,7 +7,6 @@ ghost use Rattle.page_print.specs.Printing.{Prints, GathersText};
 ghost use Rattle.table_print.specs.Sample.{sample_heading, counted_line, AreCountedLines, IsSampleText};
 ghost use Rattle.table_print.specs.declared.sample.TheConstants.{COUNTED_LINE, SAMPLE_HEADING};
 
-
 use crate::rows::{SHOWN_ROW, push_row};
 use group_closure::Group;
 use itoa::Buffer;
