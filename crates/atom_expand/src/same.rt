@@ -35,6 +35,9 @@ fn is_surely_other(p: &Point, q: &Point) -> bool
 {
     let [x, _, _] = p.n;
     let [u, _, _] = q.n;
+    if p.d == q.d {
+        return x != u;
+    }
     kept_product(q.d, x) != kept_product(p.d, u)
 }
 
