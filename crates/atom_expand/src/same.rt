@@ -29,7 +29,8 @@ pub fn is_same_point(p: &Point, q: &Point) -> bool
     is_same_ratio(z, d, w, e)
 }
 
-/// Whether the cross products of the first coordinates differ in the bits that the machine keeps, as they do for most points.
+/// Whether the first coordinates differ, as they do for most points: over one denominator as they are, else by their cross products
+/// in the bits that the machine keeps.
 fn is_surely_other(p: &Point, q: &Point) -> bool
     ensures { IsTrue result → point_in p.now ≈ point_in q.now → ⊥ }
 {
