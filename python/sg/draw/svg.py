@@ -276,7 +276,10 @@ def _joined(heights: Iterable[Height]) -> str:
 def draw_positions(group: SpaceGroup, rows: Iterable[int] | None, axis: str) -> Drawing:
     """The points in a cell of rows, which are told by their places in the table; if None, of those that have no free coordinate.
     Beside a point stand its row's place, and the heights."""
-    chosen = set(rows) if rows is not None else {row.place for row in group.rows if row.is_fixed}
+    chosen = sorted(set(rows) if rows is not None else {row.place for row in group.rows if row.is_fixed})
+    for place in chosen:
+        if not 1 <= place <= len(group.rows):
+            raise ValueError(f"no row {place}: the table has {len(group.rows)}")
     paper, seen = projection(group, axis, CELL), turned(group, axis)
     point = (Fraction(7, 60), Fraction(11, 60), Fraction(1, 12))
     places = defaultdict(lambda: defaultdict(set))
@@ -298,5 +301,5 @@ def draw_positions(group: SpaceGroup, rows: Iterable[int] | None, axis: str) -> 
         for line, (row, heights) in enumerate(words):
             text = f'<tspan font-weight="bold">{row}</tspan> {heights}'
             drawn.append(symbols.text(left, base + 8.5 * 1.15 * line, text, 8.5, anchor))
-    names = ", ".join(map(str, sorted(chosen)))
-    return Drawing(f"Points of rows {names} along {axis}", paper, "".join(drawn), 40.0)
+    names = ", ".join(map(str, chosen))
+    return Drawing(f"Points of the rows {names} along {axis}", paper, "".join(drawn), 40.0)
