@@ -8,7 +8,6 @@ import re
 import unittest
 from collections import Counter
 from collections.abc import Iterator, Sequence
-from fractions import Fraction as F
 from math import gcd, lcm
 from pathlib import Path
 

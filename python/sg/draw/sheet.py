@@ -9,7 +9,6 @@ from html import escape
 from . import symbols
 from .answers import Operation, Row, SpaceGroup
 from .geometry import Elements, Glide
-from .paper import main_axis
 from .svg import draw_elements, draw_general, draw_positions, picture, side_by_side
 
 _LISTED = 48  # so many operators are printed
