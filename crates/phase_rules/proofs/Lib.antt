@@ -5,4 +5,5 @@ pub mod Runs
 pub mod Opposites
 pub mod SomeMark
 pub mod Alike
+mod CarriedMarks
 mod Examples
