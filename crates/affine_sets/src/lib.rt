@@ -1,5 +1,6 @@
-//! Finite groups of elements of the space group, the points that they fix, their averages and the keys of these. International
-//! Tables A: the special-position operator of a point is the average over its site-symmetry group. Keys are this project's own.
+//! Finite groups of elements of the space group, the points that they fix, their averages and the keys of these. By a
+//! term of the field the average over the site-symmetry group of a point is its special-position operator. Keys are this
+//! project's own.
 //!
 //! Proved: `mean` is the average exactly, and its image is exactly the set of points that all of the group fix, and that of all
 //! M z + t (`image_of_average`); `full` lists exactly the elements that fix each point of the image, and `holds` says exactly
