@@ -34,3 +34,4 @@ mod Putting
 mod Products
 mod Leading
 mod OneKey
+mod ImagePoints
