@@ -226,6 +226,61 @@ static void ask_p21c_arrays(sg_group *group)
     refuse_arrays(group);
 }
 
+/* A change through the handle, and the same change as the command answers it. */
+static void change_as_command(sg_group *group, const char *input, const char *words, const sg_operator *change, uint8_t over)
+{
+    static uint8_t text[4096], fault[SG_MAX_FAULT];
+    sg_group changed = SG_NO_GROUP, told = SG_NO_GROUP;
+    sg_operator ops[SG_MAX_ORDER], same[SG_MAX_ORDER];
+    sg_lengths lengths;
+    uint32_t line;
+    uint16_t order;
+    expect("answer", sg_answer((const uint8_t *)words, strlen(words), (const uint8_t *)input, strlen(input), text, sizeof text,
+                               fault, sizeof fault, &lengths), SG_OK);
+    expect("told", sg_group_close(text, lengths.text, &told, &line), SG_OK);
+    if (over == 0)
+        expect(words, sg_group_basis(group, change, &changed), SG_OK);
+    else
+        expect(words, sg_group_recell(group, change, over, &changed), SG_OK);
+    order = sg_group_order(&told);
+    expect("order", sg_group_order(&changed), order);
+    expect("operators", sg_group_operators(&changed, ops, order), SG_OK);
+    expect("operators", sg_group_operators(&told, same, order), SG_OK);
+    expect("as the command", memcmp(ops, same, order * sizeof *ops), 0);
+    sg_group_free(&changed);
+    sg_group_free(&told);
+}
+
+static void ask_changes(sg_group *group)
+{
+    static const char input[] = "-x,y+1/2,-z+1/2\n-x,-y,-z\n";
+    const sg_operator turned = {{0, 1, 0, 0, 0, 1, 1, 0, 0}, {6, 0, 12}}, fine = {{1, 0, 0, 0, 1, 0, 0, 0, 1}, {0, 0, 24}};
+    const sg_operator flat = {{1, 0, 0, 0, 1, 0, 0, 0, 0}, {0, 0, 0}}, wide = {{1, 3, 0, 0, 1, 0, 0, 0, 1}, {0, 0, 0}};
+    const sg_operator same = {{1, 0, 0, 0, 1, 0, 0, 0, 1}, {0, 0, 0}}, halved = {{2, 0, 0, 0, 1, 0, 0, 0, 1}, {0, 0, 0}};
+    const sg_index indices[3] = {{0, -3, 0}, {-1, -1, -1}, {-1, 2, 3}};
+    sg_index keys[3];
+    sg_group changed = SG_NO_GROUP;
+    size_t bad = 77;
+    change_as_command(group, input, "basis\ny+1/4,z,x+1/2", &turned, 0);
+    change_as_command(group, input, "recell\n2\nx,2y,2z", &(const sg_operator){{1, 0, 0, 0, 2, 0, 0, 0, 2}, {0, 0, 0}}, 2);
+    expect("no inverse", sg_group_basis(group, &flat, &changed), SG_OUT_OF_RANGE);
+    expect("translation", sg_group_basis(group, &fine, &changed), SG_OUT_OF_RANGE);
+    expect("entry", sg_group_basis(group, &wide, &changed), SG_NOT_KEPT);
+    expect("no inverse", sg_group_recell(group, &flat, 1, &changed), SG_OUT_OF_RANGE);
+    expect("no denominator", sg_group_recell(group, &same, 0, &changed), SG_OUT_OF_RANGE);
+    expect("no cell", sg_group_recell(group, &halved, 1, &changed), SG_NOT_KEPT);
+    expect("none is held", sg_group_order(&changed), 0);
+    expect("of none", sg_group_basis(&changed, &same, group), SG_EMPTY);
+    expect("freed", sg_group_order(group), 0);
+    expect("close again", close_text(group, input, &(uint32_t){0}), SG_OK);
+    expect("keys", sg_class_keys(group, true, indices, 3, keys, 3, &bad), SG_OK);
+    expect("key", keys[0].h == 0 && keys[0].k == 3 && keys[0].l == 0, 1);
+    expect("key", keys[1].h == 1 && keys[1].k == 1 && keys[1].l == 1, 1);
+    expect("key", keys[2].h == 1 && keys[2].k == 2 && keys[2].l == -3, 1);
+    expect("lengths", sg_class_keys(group, true, indices, 3, keys, 2, &bad), SG_WRONG_COUNT);
+    expect("no place", (long)bad, 77);
+}
+
 static int ask(void)
 {
     sg_group group = SG_NO_GROUP;
@@ -234,6 +289,7 @@ static int ask(void)
     ask_p21c_arrays(&group);
     ask_p21c(&group);
     ask_p21c_arrays(&group);
+    ask_changes(&group);
     refuse(&group, "x,y,z\n\nx,y\n", SG_UNREADABLE, 3);
     ask_p21c(&group);
     refuse(&group, "2x,y,z", SG_NOT_UNIMODULAR, 1);

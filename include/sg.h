@@ -68,6 +68,8 @@ enum {
 #define SG_MAX_INPUT 1048576          /* the most bytes that an input has */
 #define SG_MAX_FAULT 160              /* room for the text of each fault */
 #define SG_MAX_INDEX 10000            /* the greatest size of h, k and l */
+#define SG_MAX_ENTRY 2304             /* the greatest size of an entry of a change of the basis */
+#define SG_MAX_CELL 12                /* and of one of the cell, and its greatest denominator */
 #define SG_MAX_NUMERATOR 1000000000   /* the greatest size of a numerator of a coordinate */
 #define SG_MAX_DENOMINATOR 1000000    /* the greatest denominator of a coordinate; it is positive */
 
@@ -143,6 +145,22 @@ uint8_t sg_group_operator(sg_group *group, uint32_t place, sg_operator *op);
 uint8_t sg_group_operators(sg_group *group, sg_operator *ops, size_t ops_count);
 uint8_t sg_group_types(sg_group *group, sg_operator_type *types, size_t types_count);
 
+/* ---- The group in other coordinates. */
+
+/*
+ * Takes the group to another basis and origin, by x -> W x + t / SG_PARTS, or to a cell of another volume, by
+ * x -> W x / over + t / SG_PARTS; the other sg_group then holds it. A group that this one held before is freed, in any case; where
+ * the status is not 0, it holds none. The two are different, and the first is as it was.
+ *
+ * W has entries up to SG_MAX_ENTRY in size and an inverse in whole numbers; of a change of the cell, entries up to SG_MAX_CELL and a
+ * determinant other than 0, and over is 1 to SG_MAX_CELL. t is 0 to SG_PARTS - 1.
+ * SG_NOT_KEPT comes where an operator would have an entry beyond 2; and after a change of the cell, where the translations by its
+ * axes are none of the group, where an operator would not be whole or finer than 1 / SG_PARTS, or where there would be more than
+ * SG_MAX_ORDER operators. Statuses: SG_OK, SG_OUT_OF_RANGE, SG_NOT_KEPT, SG_NO_MEMORY, SG_EMPTY.
+ */
+uint8_t sg_group_basis(sg_group *group, const sg_operator *change, sg_group *changed);
+uint8_t sg_group_recell(sg_group *group, const sg_operator *change, uint8_t over, sg_group *changed);
+
 /*
  * ---- Arrays of questions.
  *
@@ -185,6 +203,13 @@ typedef struct {
 /* The same for each index of an array. */
 uint8_t sg_reflections(sg_group *group, bool friedel, const sg_index *indices, size_t indices_count,
                        sg_reflection_marks *marks, size_t marks_count, size_t *bad);
+
+/*
+ * For each index of an array, writes the greatest of those that are equivalent to it: by h, then by k, then by l. Indices are
+ * equivalent where these are the same. It can be beyond SG_MAX_INDEX.
+ */
+uint8_t sg_class_keys(sg_group *group, bool friedel, const sg_index *indices, size_t indices_count,
+                      sg_index *keys, size_t keys_count, size_t *bad);
 
 /* ---- Points. */
 

@@ -1,4 +1,5 @@
 pub mod Arrays
+pub mod Changes
 pub mod Groups
 pub mod Held
 pub mod Members
