@@ -110,6 +110,8 @@ static void ask_nothing(sg_group *group)
     sg_reflection_marks marks;
     sg_site_counts site;
     size_t place, count = 77;
+    const int32_t value = 0;
+    int64_t sum = 0, total = 0;
     const sg_index index = {0, 0, 0};
     const sg_point origin = {{0, 1}, {0, 1}, {0, 1}};
     expect("order of none", sg_group_order(group), 0);
@@ -123,6 +125,7 @@ static void ask_nothing(sg_group *group)
     expect("types of none", sg_group_types(group, &type, 1), SG_EMPTY);
     expect("count of none", sg_rows_count(group, &count), SG_EMPTY);
     expect("rows of none", sg_rows(group, &row, 1), SG_EMPTY);
+    expect("map of none", sg_symmetrize(group, 1, 1, 1, &value, 1, &sum, 1, &total), SG_EMPTY);
     refuse_arrays(group);
 }
 
@@ -281,6 +284,27 @@ static void ask_changes(sg_group *group)
     expect("no place", (long)bad, 77);
 }
 
+/* Each point of P 2_1/c on a grid of 2, 2 and 2 has an image beside it, and none has more on this grid. */
+static void ask_map(sg_group *group)
+{
+    const int32_t values[8] = {1, 20, 300, 4000, -50000, 600000, 7000000, INT32_MAX};
+    const int64_t wanted[8] = {4001, 320, 320, 4001, (int64_t)INT32_MAX - 50000, 7600000, 7600000, (int64_t)INT32_MAX - 50000};
+    int64_t sums[8], total = 77;
+    int i;
+    for (i = 0; i < 8; i++)
+        sums[i] = 77;
+    expect("side", sg_symmetrize(group, 2, 0, 2, values, 0, sums, 0, &total), SG_OUT_OF_RANGE);
+    expect("points", sg_symmetrize(group, SG_MAX_SIDE, SG_MAX_SIDE, 2, values, 8, sums, 8, &total), SG_OUT_OF_RANGE);
+    expect("values", sg_symmetrize(group, 2, 2, 2, values, 7, sums, 8, &total), SG_WRONG_COUNT);
+    expect("sums", sg_symmetrize(group, 2, 2, 2, values, 8, sums, 7, &total), SG_WRONG_COUNT);
+    expect("grid", sg_symmetrize(group, 8, 1, 1, values, 8, sums, 8, &total), SG_NOT_KEPT);
+    expect("unwritten", total == 77 && sums[0] == 77 && sums[7] == 77, 1);
+    expect("map", sg_symmetrize(group, 2, 2, 2, values, 8, sums, 8, &total), SG_OK);
+    for (i = 0; i < 8; i++)
+        expect("sum", (long)sums[i], (long)wanted[i]);
+    expect("total", (long)total, (long)INT32_MAX + 7554321);
+}
+
 static int ask(void)
 {
     sg_group group = SG_NO_GROUP;
@@ -290,6 +314,7 @@ static int ask(void)
     ask_p21c(&group);
     ask_p21c_arrays(&group);
     ask_changes(&group);
+    ask_map(&group);
     refuse(&group, "x,y,z\n\nx,y\n", SG_UNREADABLE, 3);
     ask_p21c(&group);
     refuse(&group, "2x,y,z", SG_NOT_UNIMODULAR, 1);

@@ -70,6 +70,8 @@ enum {
 #define SG_MAX_INDEX 10000            /* the greatest size of h, k and l */
 #define SG_MAX_ENTRY 2304             /* the greatest size of an entry of a change of the basis */
 #define SG_MAX_CELL 12                /* and of one of the cell, and its greatest denominator */
+#define SG_MAX_SIDE 2048              /* the most points of a grid along an axis */
+#define SG_MAX_POINTS 2097152         /* and in a cell */
 #define SG_MAX_NUMERATOR 1000000000   /* the greatest size of a numerator of a coordinate */
 #define SG_MAX_DENOMINATOR 1000000    /* the greatest denominator of a coordinate; it is positive */
 
@@ -268,6 +270,18 @@ uint8_t sg_rows(sg_group *group, sg_row *rows, size_t rows_count);
 /* For each point of an array, writes the place of the one row that it fits, from 0. */
 uint8_t sg_fit(sg_group *group, const sg_point *points, size_t points_count,
                size_t *places, size_t places_count, size_t *bad);
+
+/* ---- Maps. */
+
+/*
+ * Sums the values at the points of a grid over their orbits: at each grid point of a cell the sum of the values at the points of its
+ * orbit in the cell, each taken once. The point i/a, j/b, k/c has the place (i * b + j) * c + k in both arrays, and both counts
+ * are a * b * c. a, b and c are 1 to SG_MAX_SIDE, and a * b * c is at most SG_MAX_POINTS. total becomes the sum of all values.
+ * Where the status is not 0, nothing is written. SG_NOT_KEPT comes exactly where some operator takes a point of the grid to another
+ * point. Statuses: SG_OK, SG_OUT_OF_RANGE, SG_WRONG_COUNT, SG_NOT_KEPT, SG_NO_MEMORY, SG_EMPTY.
+ */
+uint8_t sg_symmetrize(sg_group *group, uint16_t a, uint16_t b, uint16_t c, const int32_t *values, size_t values_count,
+                      int64_t *sums, size_t sums_count, int64_t *total);
 
 #ifdef __cplusplus
 }

@@ -2,6 +2,7 @@ pub mod Arrays
 pub mod Changes
 pub mod Groups
 pub mod Held
+pub mod Maps
 pub mod Members
 pub mod Positions
 pub mod Questions

@@ -14,6 +14,7 @@ mod group;
 mod handle;
 mod kept;
 mod loose;
+mod maps;
 mod members;
 mod positions;
 mod questions;
