@@ -107,6 +107,7 @@ static void ask_nothing(sg_group *group)
     sg_operator op;
     sg_operator_type type;
     sg_row row;
+    sg_merged_class class;
     sg_reflection_marks marks;
     sg_site_counts site;
     size_t place, count = 77;
@@ -125,6 +126,7 @@ static void ask_nothing(sg_group *group)
     expect("types of none", sg_group_types(group, &type, 1), SG_EMPTY);
     expect("count of none", sg_rows_count(group, &count), SG_EMPTY);
     expect("rows of none", sg_rows(group, &row, 1), SG_EMPTY);
+    expect("merge of none", sg_merge(group, true, &index, 1, &value, 1, &class, 1, &place, &count), SG_EMPTY);
     expect("map of none", sg_symmetrize(group, 1, 1, 1, &value, 1, &sum, 1, &total), SG_EMPTY);
     refuse_arrays(group);
 }
@@ -284,6 +286,34 @@ static void ask_changes(sg_group *group)
     expect("no place", (long)bad, 77);
 }
 
+/* The indices of five reflections of P 2_1/c, of three classes, one of them absent. */
+static void ask_merge(sg_group *group)
+{
+    const sg_index indices[5] = {{1, 2, 3}, {0, 3, 0}, {-1, 2, -3}, {-1, -1, -1}, {1, -2, 3}};
+    const sg_index far[2] = {{1, 2, 3}, {0, 0, 10001}};
+    const int32_t values[5] = {INT32_MAX, -4, INT32_MAX, 0, 7};
+    sg_merged_class classes[4];
+    size_t count = 77, bad = 77;
+    classes[0].count = classes[3].count = 77;
+    expect("values", sg_merge(group, true, indices, 5, values, 4, classes, 4, &count, &bad), SG_WRONG_COUNT);
+    expect("room", sg_merge(group, true, indices, 5, values, 5, classes, 2, &count, &bad), SG_WRONG_COUNT);
+    expect("no place", (long)bad, 77);
+    expect("range", sg_merge(group, true, far, 2, values, 2, classes, 4, &count, &bad), SG_OUT_OF_RANGE);
+    expect("place", (long)bad, 1);
+    expect("unwritten", count == 77 && classes[0].count == 77, 1);
+    expect("merge", sg_merge(group, true, indices, 5, values, 5, classes, 4, &count, &bad), SG_OK);
+    expect("classes", (long)count, 3);
+    expect("key", classes[0].key.h == 1 && classes[0].key.k == 2 && classes[0].key.l == 3, 1);
+    expect("count", classes[0].count, 3);
+    expect("sum", (long)classes[0].sum, 2 * (long)INT32_MAX + 7);
+    expect("present", classes[0].absent || classes[0].observed, 0);
+    expect("key", classes[1].key.h == 1 && classes[1].key.k == 1 && classes[1].key.l == 1, 1);
+    expect("sum", (long)classes[1].sum, 0);
+    expect("key", classes[2].key.h == 0 && classes[2].key.k == 3 && classes[2].key.l == 0, 1);
+    expect("absent", classes[2].absent && classes[2].observed, 1);
+    expect("behind", classes[3].count, 77);
+}
+
 /* Each point of P 2_1/c on a grid of 2, 2 and 2 has an image beside it, and none has more on this grid. */
 static void ask_map(sg_group *group)
 {
@@ -315,6 +345,7 @@ static int ask(void)
     ask_p21c_arrays(&group);
     ask_changes(&group);
     ask_map(&group);
+    ask_merge(&group);
     refuse(&group, "x,y,z\n\nx,y\n", SG_UNREADABLE, 3);
     ask_p21c(&group);
     refuse(&group, "2x,y,z", SG_NOT_UNIMODULAR, 1);

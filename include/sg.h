@@ -213,6 +213,26 @@ uint8_t sg_reflections(sg_group *group, bool friedel, const sg_index *indices, s
 uint8_t sg_class_keys(sg_group *group, bool friedel, const sg_index *indices, size_t indices_count,
                       sg_index *keys, size_t keys_count, size_t *bad);
 
+/* What was measured of a class of equivalent reflections. */
+typedef struct {
+    int64_t sum;    /* the sum of the values */
+    sg_index key;   /* the greatest index of the class, as of sg_class_keys */
+    uint32_t count; /* how many of the indices are of the class */
+    bool absent;    /* whether it is systematically absent */
+    bool observed;  /* whether it is, and one of the values is not 0 */
+} sg_merged_class;
+
+/*
+ * Merges values by the classes of their indices. count becomes the number of classes, which are written to the front of the array
+ * by their keys, descending; there are at most as many as indices. values has a value for each index. Where the status is not 0,
+ * nothing but bad is written, as of each call with an array of questions. Statuses: SG_OK, SG_OUT_OF_RANGE, SG_NO_MEMORY, SG_EMPTY,
+ * and SG_WRONG_COUNT where there are not as many values as indices, more than 2^32 - 1 of them, or more classes than the array has
+ * room for.
+ */
+uint8_t sg_merge(sg_group *group, bool friedel, const sg_index *indices, size_t indices_count,
+                 const int32_t *values, size_t values_count,
+                 sg_merged_class *classes, size_t classes_room, size_t *count, size_t *bad);
+
 /* ---- Points. */
 
 /* The fraction n / d. */

@@ -4,6 +4,7 @@ pub mod Groups
 pub mod Held
 pub mod Maps
 pub mod Members
+pub mod Merging
 pub mod Positions
 pub mod Questions
 pub mod Texts

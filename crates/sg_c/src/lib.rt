@@ -16,6 +16,7 @@ mod kept;
 mod loose;
 mod maps;
 mod members;
+mod merging;
 mod positions;
 mod questions;
 mod slice_source;

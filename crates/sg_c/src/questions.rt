@@ -101,7 +101,7 @@ fn code_of(mark: Mark) -> (u8, u8)
     }
 }
 
-fn pairs_of(friedel: bool) -> Pairs
+pub fn pairs_of(friedel: bool) -> Pairs
     ensures { result ≡ pairs_of friedel }
 {
     if friedel {
@@ -213,8 +213,8 @@ fn site_of(group: &Group, point: &Point) -> Site
 
 /// Asks for the classes of reflections.
 #[derive(Clone, Copy)]
-struct AskKey {
-    pairs: Pairs,
+pub struct AskKey {
+    pub pairs: Pairs,
 }
 
 impl Asking for AskKey {
