@@ -95,8 +95,9 @@ CALLS = list(worked_calls())
 
 class WorkedExamples(unittest.TestCase):
     def test_all_are_read(self):
-        counts = (DATA.parent / "stdout").read_text()
-        self.assertIn(f" {len(CALLS)} calls,", counts)
+        lines = [line for name in (DATA.parent / "args").read_text().split() for line in (DATA / name).read_text().split("\n")]
+        words = sum(line.startswith("$ sg") for line in lines)
+        self.assertLessEqual(words, len(CALLS))
 
     def test_module(self):
         for call in CALLS:
