@@ -95,8 +95,11 @@ CALLS = list(worked_calls())
 
 class WorkedExamples(unittest.TestCase):
     def test_all_are_read(self):
-        counts = (DATA.parent / "stdout").read_text()
-        self.assertIn(f" {len(CALLS)} calls,", counts)
+        named = (DATA.parent / "args").read_text().split()
+        self.assertEqual(sorted(named), sorted(path.name for path in DATA.glob("*.txt")))
+        asked = sum(len(re.findall(r"^\$ sg", (DATA / name).read_text(), re.MULTILINE)) for name in named)
+        self.assertLess(0, asked)
+        self.assertLessEqual(asked, len(CALLS))
 
     def test_module(self):
         for call in CALLS:
