@@ -13,35 +13,51 @@ _READING_FAILED = 3
 _WRITING_FAILED = 4
 
 
+class _ReadingFailed(Exception):
+    pass
+
+
+def _read() -> bytes:
+    try:
+        # A standard stream that is closed is None here, and is empty.
+        return sys.stdin.buffer.read(MAX_INPUT + 1) if sys.stdin else b""
+    except OSError:
+        raise _ReadingFailed from None
+
+
+def _answer(words: Sequence[str]) -> str:
+    """What the command prints. Words that are no command, and `sample`, leave the input unread: the line that is no triplet, which is
+    asked first, tells the others from them."""
+    try:
+        return answer(words, "no triplet")
+    except Error as fault:
+        if fault.status != Status.UNREADABLE:
+            raise
+    return answer(words, _read())
+
+
 def _fault(status: int, text: str) -> int:
     try:
-        print(text, file=sys.stderr)
+        if sys.stderr:
+            print(text, file=sys.stderr)
     except OSError:
         pass
-    return int(status)
+    return status
 
 
 def main(words: Optional[Sequence[str]] = None) -> int:
-    asked = sys.argv[1:] if words is None else list(words)
     try:
-        # Words that are no command, and `sample`, leave the input unread: a line that is no triplet tells the others from them.
-        text = answer(asked, "no triplet")
+        text = _answer(sys.argv[1:] if words is None else words)
+    except _ReadingFailed:
+        return _fault(_READING_FAILED, "sg: reading failed")
     except Error as fault:
-        if fault.status != Status.UNREADABLE:
-            return _fault(fault.status, fault.text)
-        try:
-            given = sys.stdin.buffer.read(MAX_INPUT + 1)
-        except OSError:
-            return _fault(_READING_FAILED, "sg: reading failed")
-        try:
-            text = answer(asked, given)
-        except Error as told:
-            return _fault(told.status, told.text)
+        return _fault(int(fault.status), fault.text)
     try:
-        sys.stdout.buffer.write(text.encode())
-        sys.stdout.buffer.flush()
+        if sys.stdout:
+            sys.stdout.buffer.write(text.encode())
+            sys.stdout.buffer.flush()
     except OSError:
-        # Nothing more is written when Python ends.
+        # What is left in the buffer is not written again when Python ends.
         os.dup2(os.open(os.devnull, os.O_WRONLY), sys.stdout.fileno())
         return _fault(_WRITING_FAILED, "sg: writing failed")
     return 0

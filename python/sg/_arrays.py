@@ -5,6 +5,7 @@ from __future__ import annotations
 import ctypes
 import sys
 from array import array
+from operator import index as whole
 from typing import Any, Iterable, Iterator, Optional, Tuple
 
 from .coordinates import exact_in_range
@@ -69,12 +70,6 @@ def _in_range(code: str, numbers: Iterable[int], width: int, what: str) -> array
         # The number that did not fit is the next one.
         raise out_of_range(what, len(kept) // width) from None
     return kept
-
-
-def whole(number: Any) -> int:
-    if isinstance(number, float):
-        raise TypeError(f"{number!r} is no whole number")
-    return number.__index__()
 
 
 def _three(row: Any) -> Tuple[Any, Any, Any]:

@@ -46,6 +46,8 @@ def coordinate(text: str, within: Union[Within, Coordinate, None] = None, parts:
     >>> coordinate("0.3333"), coordinate("0.3333", within=LAST_DIGIT)
     (Fraction(3333, 10000), Fraction(1, 3))
     """
+    if parts < 1:
+        raise ValueError("a cell has one part at least")
     read = _NUMBER.fullmatch(text)
     if not read:
         raise _no_coordinate(text)

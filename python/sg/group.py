@@ -6,6 +6,7 @@ import ctypes
 import json
 import threading
 from fractions import Fraction
+from operator import index as whole
 from typing import Any, Dict, Iterable, Iterator, Optional, Sequence, Tuple, Union
 
 from . import _arrays, _texts
@@ -157,7 +158,7 @@ class Group:
         """What symmetry says of a reflection, whose indices are at most 10,000 in size. With `friedel`, h and -h are equivalent;
         without, as where anomalous scattering tells them apart, no phase is restricted."""
         marks = ReflectionMarks()
-        index = [_arrays.whole(number) for number in (h, k, l)]
+        index = [whole(number) for number in (h, k, l)]
         # ctypes would cut off what is longer.
         if any(number.bit_length() > 31 for number in index):
             raise out_of_range(f"index {h} {k} {l}")
