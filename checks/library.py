@@ -190,6 +190,12 @@ class Questions(unittest.TestCase):
                     self.assertEqual(lines[:2], [f"order {found.order}", f"multiplicity {found.multiplicity}"])
                     self.assertEqual(found, group.site(*map(Fraction, point)))
 
+    def test_a_notebook_shows_a_group(self):
+        for group in self.groups:
+            with self.subTest(group.input):
+                self.assertTrue(group._repr_svg_().startswith("<svg "))
+                self.assertIn(group._repr_svg_()[:20], group._repr_html_())
+
     def test_out_of_range(self):
         group = self.groups[0]
         for ask in (

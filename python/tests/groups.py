@@ -11,6 +11,7 @@ PROGRAM = os.environ.get("SG")
 P1BAR = "-x,-y,-z\n"
 P21C = "-x,y+1/2,-z+1/2\n-x,-y,-z\n"
 P21C_SHEARED = "-x+2*y+1/2,y+1/2,-z+1/2\n-x,-y,-z\n"  # in the coordinates x + y, y, z
+P2_OBLIQUE = "-x+2*y+1/2,y,2*y-z\n"  # -x+1/2,y,-z in the coordinates x + y, y, y + z
 P212121 = "-x+1/2,-y,z+1/2\n-x,y+1/2,-z+1/2\n"
 P41 = "-y,x,z+1/4\n"
 P43 = "-y,x,z+3/4\n"

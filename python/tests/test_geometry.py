@@ -6,7 +6,7 @@ from __future__ import annotations
 import unittest
 from fractions import Fraction as F
 
-from groups import FM3M, I41AMD, P1BAR, P21C, P21C_SHEARED, P41, P43, P6MMM, P212121, PROGRAM, R3BAR, R3BAR_PRIMITIVE, group
+from groups import FM3M, I41AMD, P1BAR, P2_OBLIQUE, P21C, P21C_SHEARED, P41, P43, P6MMM, P212121, PROGRAM, R3BAR, R3BAR_PRIMITIVE, group
 from sg.draw.geometry import Elements, FlatPlane, Glide, Line, elements
 from sg.draw.paper import main_axis, projection, turned
 
@@ -113,6 +113,12 @@ class Located(unittest.TestCase):
         self.assertEqual([glides[Line((1, 1), F(0))], glides[Line((1, -1), F(0))]], [Glide.QUARTER] * 2)
         self.assertEqual([(p.height, p.glide) for p in found.flat_planes], [(F(0), Glide.ACROSS), (F(1, 4), Glide.ALONG)])
 
+    def test_diamond_glides_of_i41amd(self) -> None:
+        """-y+1/4,-x+3/4,z+1/4 glides by -1/4,1/4,1/4 in x+y = 1/2; with 1,0,0 added it glides by 1/4,-1/4,1/4 in x+y = 1."""
+        ways = {plane.line: plane.way for plane in seen(I41AMD, "c").upright_planes}
+        self.assertEqual(Line((1, 1), F(1, 2)).direction, (-1, 1))
+        self.assertEqual([ways[Line((1, 1), F(1, 2))], ways[Line((1, 1), F(0))]], [1, -1])
+
     def test_fm3m_leaves_out_what_is_inclined(self) -> None:
         found = seen(FM3M, "c")
         self.assertEqual(found.inclined, ("-3", "2", "3", "m"))
@@ -125,6 +131,20 @@ class Located(unittest.TestCase):
         self.assertEqual(axes(found), axes(seen(P21C, "c")))
         self.assertEqual(planes(found), {y_is(1, 4): Glide.ACROSS, y_is(3, 4): Glide.ACROSS})
         self.assertEqual(flat(found), {(Line((1, -1), F(n, 2)), "2_1", (F(1, 4),)) for n in (0, 1)})
+
+    def test_axes_whose_height_changes(self) -> None:
+        """P2 with axes at 1/4,y,0 in the coordinates x + y, y, y + z: an axis x0,y,z0, with x0 an odd multiple of 1/4 and z0 one of
+        1/2, is at the height x0 + y along a, and at z0 + y along c."""
+        along_a, along_c = (seen(P2_OBLIQUE, axis).flat_axes for axis in "ac")
+        self.assertEqual({(axis.line, axis.symbol) for axis in along_a}, {(Line((1, -1), F(n, 2)), "2") for n in (0, 1)})
+        self.assertEqual({(axis.line, axis.symbol) for axis in along_c}, {(Line((1, -1), F(n, 4)), "2") for n in (1, 3)})
+        for multiple in (F(0), F(1, 3), F(2)):
+            for axis in along_a:
+                y, _ = axis.line.point(0, multiple)
+                self.assertEqual(axis.heights_at(multiple), [(y + F(1, 4)) % F(1, 2)])
+            for axis in along_c:
+                _, y = axis.line.point(0, multiple)
+                self.assertEqual(axis.heights_at(multiple), [y % F(1, 2)])
 
     def test_elements_are_carried_to_elements(self) -> None:
         """Each operation takes an upright axis to an upright axis of that name, or of the other hand where it is improper."""

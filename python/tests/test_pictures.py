@@ -4,7 +4,6 @@ from __future__ import annotations
 
 import contextlib
 import io
-import os
 import tempfile
 import unittest
 from collections import Counter
@@ -145,6 +144,13 @@ class Command(unittest.TestCase):
         self.assertEqual(self.run_with("x,y\n"), (5, "", "sg: line 1: not a triplet\n"))
         with self.assertRaises(Refused):
             group("2*x,y,z\n")
+
+    def test_rows_and_axes_that_are_not_there(self) -> None:
+        self.assertIn("Points of the rows 2, 5, along b", self.run_with(P21C, "--rows", "5,2")[1])
+        for words in (("--rows", "6"), ("--rows", "0"), ("--rows", "a"), ("--axes", "abd")):
+            with self.subTest(words), self.assertRaises(SystemExit) as caught:
+                self.run_with(P21C, *words)
+            self.assertEqual(caught.exception.code, 2)
 
 
 class Parts(unittest.TestCase):

@@ -13,7 +13,7 @@ use Rattle.lattice_algebra.proofs.Ring.{var, ◌⊗◌, ring}
 use Rattle.lattice_algebra.proofs.Machine.{IsWithin, back, fits, computed}
 use Rattle.exact_ops.specs.declared.TheConstants.{UNIT, MAX_DENOMINATOR}
 use Rattle.exact_ops.specs.Points.{IsPointInRange}
-use Rattle.exact_ops.proofs.Bounds.{denominator_bound, numerator_bound, denominator_within, numerators_within}
+use Rattle.exact_ops.proofs.Bounds.{denominator_bound, numerator_bound, denominator_within, numerators_within, kept_denominator}
 use Rattle.space_groups.specs.Space.{IsInCell}
 
 -- ---- cross products in the machine
@@ -138,6 +138,13 @@ kept_apart p q r s in_range other e k same =
     let fits_d : (x : Point) → IsPointInRange x → FitsSigned w128 x.d = λ x g. fits_within denominator_bound x.d (denominator_within x g) tt in
     let fits_x : (x : Point) → IsPointInRange x → FitsSigned w128 x.n.x = λ x g. fits_within numerator_bound x.n.x ((numerators_within x g).first) tt in
     same_kept q.d p.n.x p.d q.n.x r s (fits_d q other) (fits_x p in_range) (fits_d p in_range) (fits_x q other) e k (ap (λ (c : Column). c.x) same)
+
+-- points over one denominator have equal first numbers
+pub first_equal : (p q : Point) → IsPointInRange p → IsPointInRange q → of_z w128 p.d ≡ of_z w128 q.d → p ≈ q → p.n.x ≡ q.n.x
+unfolding times
+first_equal p q in_range other e same =
+    let d : p.d ≡ q.d = sym (kept_denominator p in_range) ∙ ap (to_z w128) e ∙ kept_denominator q other in
+    cancel_number p.d p.n.x q.n.x in_range.positive (ap (λ v. v *ℤ p.n.x) d ∙ ap (λ (c : Column). c.x) same)
 
 -- ---- whether two points are one
 

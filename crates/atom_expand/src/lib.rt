@@ -10,6 +10,7 @@
 mod atom;
 mod atoms;
 mod expansion;
+mod fractions;
 mod label;
 mod laws;
 mod printing;

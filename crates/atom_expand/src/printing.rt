@@ -1,5 +1,4 @@
-ghost use Rattle.std.proofs.Common.{rules};
-ghost use Rattle.std.specs.Prelude.{◌≡◌, ◌+◌, ◌≤◌, ◌<◌, drop, codes, length};
+ghost use Rattle.std.specs.Prelude.{◌≡◌, ◌+◌, ◌≤◌, ◌<◌, codes, length};
 ghost use Rattle.exact_ops.specs.Numbers.{point_in};
 ghost use Rattle.page_print.specs.declared.page.TheConstants.{PAGE_ROOM};
 ghost use Rattle.page_print.specs.Lines.{AreLines, AddsSuch};
@@ -13,13 +12,14 @@ ghost use Rattle.atom_expand.specs.Printing.{site_line, IsPointLine, IsEntryText
 use crate::LABEL_LENGTH;
 use crate::atoms::AtomList;
 use crate::expansion::{Expanded, Expansion};
+use crate::fractions::Fractions;
 use crate::label::Label;
 use exact_ops::Point;
 use itoa::Buffer;
 use orbit_map::parts::Orbit;
-use page_print::{Listed, Page, put_heading, put_listed, put_page};
+use page_print::{Page, make_room, put_heading, put_page};
 use sg_io::{Sink, SinkStop};
-use triplet_text::{TEXT_ROOM, Text, print_frac};
+use triplet_text::{TEXT_ROOM, Text};
 
 /// The most bytes that the line of a site has: a word, two numbers, a label, three blanks and the line feed.
 const SITE_LINE: usize = 4 + 5 + LABEL_LENGTH + 5 + 4;
@@ -38,10 +38,18 @@ pub fn print_atoms<K: Sink>(
     requires { length expansion.now ≡ length atoms.now }
     ensures { Prints K.seen (IsAtomsText atoms.now expansion.now) sink.old sink.new result }
 {
+    let mut fractions = Fractions::new();
     let mut page = Page::new();
     for k in 0..atoms.len() {
         let label = atoms.get(k).label;
-        put_site(k + 1, &label, expansion.entry(k), &mut page, sink)?;
+        put_site(
+            k + 1,
+            &label,
+            expansion.entry(k),
+            &mut fractions,
+            &mut page,
+            sink,
+        )?;
     }
     put_page(&page, sink)
 }
@@ -51,6 +59,7 @@ fn put_site<K: Sink>(
     number: u16,
     label: &Label,
     entry: &Expanded,
+    fractions: &mut Fractions,
     page: &mut Page,
     sink: &mut K,
 ) -> Result<(), SinkStop>
@@ -59,7 +68,7 @@ fn put_site<K: Sink>(
         sink.old sink.new page.old page.new result }
 {
     match entry {
-        Expanded::First(orbit) => put_orbit(number, label, orbit, page, sink),
+        Expanded::First(orbit) => put_orbit(number, label, orbit, fractions, page, sink),
         Expanded::Same(j) => put_same(number, label, *j, page, sink),
     }
 }
@@ -68,6 +77,7 @@ fn put_orbit<K: Sink>(
     number: u16,
     label: &Label,
     orbit: &Orbit,
+    fractions: &mut Fractions,
     page: &mut Page,
     sink: &mut K,
 ) -> Result<(), SinkStop>
@@ -76,7 +86,7 @@ fn put_orbit<K: Sink>(
 {
     let heading = heading(b"site ", number, label, orbit.len());
     put_heading(heading.bytes(), POINT_LINE, page, sink)?;
-    put_listed(&PointLines { number, orbit }, page, sink)
+    put_points(number, orbit, fractions, page, sink)
 }
 
 fn put_same<K: Sink>(
@@ -111,35 +121,25 @@ fn heading(word: &[u8], number: u16, label: &Label, other: u16) -> Text
     text
 }
 
-#[derive(Drop)]
-struct PointLines<'a> {
+/// Adds the lines of the points to the page, and hands it over each time that the next one may not fit.
+fn put_points<K: Sink>(
     number: u16,
-    orbit: &'a Orbit,
+    orbit: &Orbit,
+    fractions: &mut Fractions,
+    page: &mut Page,
+    sink: &mut K,
+) -> Result<(), SinkStop>
+    ensures { GathersText K.seen (AreLines (IsPointLine number) orbit.now)
+        sink.old sink.new page.old page.new result }
+{
+    for at in 0..orbit.len() {
+        make_room(POINT_LINE, page, sink)?;
+        push_point(number, &orbit.get(at), fractions, page);
+    }
+    Ok(())
 }
 
-impl Listed for PointLines<'_> {
-    ghost texts = { λ lines at. AreLines (IsPointLine lines.number) (drop at lines.orbit.now) };
-
-    ghost count = { λ lines. length lines.orbit.now };
-
-    ghost longest = { POINT_LINE };
-
-    ghost fits = { Prim.search rules };
-
-    fn len(&self) -> u32 {
-        u32::from(self.orbit.len())
-    }
-
-    fn longest_line(&self) -> usize {
-        POINT_LINE
-    }
-
-    fn push_line(&self, at: u32, page: &mut Page) {
-        push_point(self.number, &self.orbit.get(at as u16), page);
-    }
-}
-
-fn push_point(number: u16, point: &Point, page: &mut Page)
+fn push_point(number: u16, point: &Point, fractions: &mut Fractions, page: &mut Page)
     requires { length page.old + POINT_LINE ≤ PAGE_ROOM }
     ensures { AddsSuch (IsPointLine number (point_in point.now)) page.old page.new }
 {
@@ -147,10 +147,10 @@ fn push_point(number: u16, point: &Point, page: &mut Page)
     page.push(b"at ");
     page.push(Buffer::new().format(number).as_bytes());
     page.push(b" ");
-    page.push(print_frac(x, point.d).bytes());
+    fractions.push(x, point.d, page);
     page.push(b" ");
-    page.push(print_frac(y, point.d).bytes());
+    fractions.push(y, point.d, page);
     page.push(b" ");
-    page.push(print_frac(z, point.d).bytes());
+    fractions.push(z, point.d, page);
     page.push(b"\n");
 }

@@ -29,12 +29,16 @@ pub fn is_same_point(p: &Point, q: &Point) -> bool
     is_same_ratio(z, d, w, e)
 }
 
-/// Whether the cross products of the first coordinates differ in the bits that the machine keeps, as they do for most points.
+/// Whether the first coordinates differ, as they do for most points: over one denominator as they are, else by their cross products
+/// in the bits that the machine keeps.
 fn is_surely_other(p: &Point, q: &Point) -> bool
     ensures { IsTrue result → point_in p.now ≈ point_in q.now → ⊥ }
 {
     let [x, _, _] = p.n;
     let [u, _, _] = q.n;
+    if p.d == q.d {
+        return x != u;
+    }
     kept_product(q.d, x) != kept_product(p.d, u)
 }
 

@@ -10,7 +10,7 @@ ghost use Rattle.table_print.specs.declared.sample.TheConstants.{COUNTED_LINE, S
 use crate::rows::{SHOWN_ROW, push_row};
 use group_closure::Group;
 use itoa::Buffer;
-use page_print::{Page, make_room, put_page};
+use page_print::{Page, counted, make_room, put_page};
 use sg_io::{Sink, SinkStop};
 use wyckoff_rows::parts::Rows;
 

@@ -54,10 +54,11 @@ def positions(group: Source, rows: Iterable[int] | None = None, axis: str | None
     return _svg.picture(_svg.draw_positions(told, rows, axis or main_axis(told)))
 
 
-def sheet(group: Source, title: str = "", axes: str | None = None) -> Html:
-    """A page without scripts that needs no other file: the diagrams along each of `axes`, a legend, the rows, the operators."""
+def sheet(group: Source, title: str = "", axes: str | None = None, rows: Iterable[int] | None = None) -> Html:
+    """A page without scripts that needs no other file: the diagrams along each of `axes`, a legend, the rows, the operators. The
+    points of `rows` are shown, as by `positions`."""
     told = _answers(group)
-    return _sheet.sheet(told, title, axes or main_axis(told))
+    return _sheet.sheet(told, title, axes or main_axis(told), None if rows is None else sorted(set(rows)))
 
 
 def _answers(group: Source) -> SpaceGroup:

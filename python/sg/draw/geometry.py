@@ -15,6 +15,7 @@ from collections.abc import Iterable, Iterator, Sequence
 from dataclasses import dataclass
 from enum import Enum
 from fractions import Fraction
+from functools import lru_cache
 from itertools import product as choices
 from math import gcd
 
@@ -112,7 +113,7 @@ class Elements:
 
 def elements(group: SpaceGroup) -> Elements:
     """The elements of a turned group."""
-    period = least_translation(group, _UP)
+    period = least_translation(group.centrings, _UP)
     points, lines, inclined = defaultdict(list), defaultdict(list), set()
     upright_planes, flat_planes = set(), set()
     for operation in group.operations:
@@ -130,7 +131,7 @@ def elements(group: SpaceGroup) -> Elements:
             elif upright:
                 points[point[:2]].append((operation.kind, _screw(group, operation, _UP, intrinsic), point[2]))
             else:
-                line, slope, height = _flat_line(operation.axis, point)
+                line, slope, height = flat_line(operation.axis, point)
                 for n in range(slope.denominator):
                     entry = operation.kind, _screw(group, operation, operation.axis, intrinsic), point[2]
                     lines[line, slope, (height + n * slope) % period].append(entry)
@@ -188,16 +189,16 @@ def located(operation: Operation) -> Iterator[tuple[Vector, Vector]]:
             yield tuple(Fraction(c, cell) for c in point), tuple(Fraction(i, unit) for i in intrinsic)
 
 
-def least_translation(group: SpaceGroup, direction: Sequence[int]) -> Fraction:
+@lru_cache(maxsize=256)
+def least_translation(centrings: frozenset[Vector], direction: tuple[int, ...]) -> Fraction:
     """The least multiple of the direction that is a translation of the lattice. Its numbers have no common divisor."""
-    centrings = group.centrings
     return Fraction(1, next(n for n in range(_FINEST, 0, -1) if tuple(Fraction(d, n) % 1 for d in direction) in centrings))
 
 
-def _screw(group: SpaceGroup, operation: Operation, axis: Sequence[int], intrinsic: Vector) -> Fraction:
+def _screw(group: SpaceGroup, operation: Operation, axis: tuple[int, ...], intrinsic: Vector) -> Fraction:
     """The screw part in least translations along the axis, for the turn that is counter-clockwise when seen against it."""
     at = next(i for i in range(3) if axis[i] != 0)
-    screw = intrinsic[at] / axis[at] / least_translation(group, axis)
+    screw = intrinsic[at] / axis[at] / least_translation(group.centrings, axis)
     (a, b, c), sign = axis, -1 if operation.improper else 1
     for v in ((1, 0, 0), (0, 1, 0), (0, 0, 1)):
         x, y, z = (sign * e for e in times(operation.map.matrix, v))
@@ -249,7 +250,7 @@ def _whole_point(normal: tuple[int, int]) -> tuple[int, int]:
     return (x, y) if a == 1 else (-x, -y)
 
 
-def _line_through(direction: Sequence[Fraction | int], point: Vector) -> tuple[Line, int]:
+def line_through(direction: Sequence[Fraction | int], point: Vector) -> tuple[Line, int]:
     """The line in that direction through the point, and the m of its copy that has the point."""
     a, b = (int(d) for d in direction[:2])
     normal = (b // gcd(a, b), -a // gcd(a, b))
@@ -259,9 +260,9 @@ def _line_through(direction: Sequence[Fraction | int], point: Vector) -> tuple[L
     return Line(normal, place % 1), place // 1
 
 
-def _flat_line(axis: Sequence[int], point: Vector) -> tuple[Line, Fraction, Fraction]:
+def flat_line(axis: Sequence[int], point: Vector) -> tuple[Line, Fraction, Fraction]:
     """The line of a flat axis through the point, its slope, and its height above the foot."""
-    line, m = _line_through(axis, point)
+    line, m = line_through(axis, point)
     at = 0 if line.direction[0] else 1
     slope = Fraction(axis[2] * line.direction[at], axis[at])
     return line, slope, point[2] - slope * (point[at] - line.point(m, 0)[at]) / line.direction[at]
@@ -285,7 +286,7 @@ def _glides(lattice: set[Pair], part: Pair, cells: int) -> tuple[Glide, list[Pai
 def _upright_plane(group: SpaceGroup, operation: Operation, point: Vector, intrinsic: Vector) -> UprightPlane:
     (a, b, _), (c, d, _), _ = operation.map.matrix
     across = (a - 1, b) if (a, b) != (1, 0) else (c, d - 1)
-    line, _ = _line_through((-across[1], across[0]), point)
+    line, _ = line_through((-across[1], across[0]), point)
     a, b = line.direction
     steps = [Fraction(n, _FINEST) for n in range(_FINEST)]
     lattice = {(s, c[2]) for s in steps for c in group.centrings if (s * a % 1, s * b % 1) == c[:2]}
@@ -298,7 +299,7 @@ def _upright_plane(group: SpaceGroup, operation: Operation, point: Vector, intri
 
 def _flat_plane(group: SpaceGroup, operation: Operation, point: Vector, intrinsic: Vector) -> FlatPlane:
     # A vector of the plane is fixed by W: its height is half of tilt . (down, right).
-    tilt, period = operation.map.matrix[2][:2], least_translation(group, _UP)
+    tilt, period = operation.map.matrix[2][:2], least_translation(group.centrings, _UP)
     lattice = set()
     for c, m, n in choices(group.centrings, range(2), range(2)):
         u, v = c[0] + m, c[1] + n

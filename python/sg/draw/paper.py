@@ -31,6 +31,8 @@ def metric(matrices: Iterable[Matrix]) -> Matrix:
 
 def _order(axis: str) -> tuple[int, int, int]:
     """The places of the axis that points down, of that to the right, and of the axis of projection."""
+    if axis not in ("a", "b", "c"):
+        raise ValueError(f"no axis {axis}: an axis is a, b or c")
     at = "abc".index(axis)
     return (at + 1) % 3, (at + 2) % 3, at
 

@@ -9,7 +9,6 @@ from html import escape
 from . import symbols
 from .answers import Operation, Row, SpaceGroup
 from .geometry import Elements, Glide
-from .paper import main_axis
 from .svg import draw_elements, draw_general, draw_positions, picture, side_by_side
 
 _LISTED = 48  # so many operators are printed
@@ -50,8 +49,9 @@ class Html(str):
         return self[start:end].replace("</head><body>", "", 1)
 
 
-def sheet(group: SpaceGroup, title: str, axes: str) -> Html:
-    """A page without scripts that needs no other file: the diagrams along each of `axes`, a legend, the rows, the operators."""
+def sheet(group: SpaceGroup, title: str, axes: str, rows: Sequence[int] | None) -> Html:
+    """A page without scripts that needs no other file: the diagrams along each of `axes`, a legend, the rows, the operators. The
+    points of `rows` are shown; if None, of those without a free coordinate."""
     heading = escape(title or "Space group")
     counts = [(len(group.operations), "operator"), (len(group.centrings), "translation"), (len(group.rows), "Wyckoff position")]
     note = (
@@ -65,7 +65,7 @@ def sheet(group: SpaceGroup, title: str, axes: str) -> Html:
         f'<!DOCTYPE html>\n<html lang="en"><head><meta charset="utf-8"><title>{heading}</title><style>{_STYLE}</style></head><body>'
         f'<div class="sg"><h1>{heading}</h1><p class="note">{note}</p>{"".join(_diagrams(group, axis) for axis in axes)}'
         f'<div class="row"><div><h2>Wyckoff positions</h2>{_rows(group.rows, len(group.operations))}</div>'
-        f'{_points(group, axes[0])}</div>'
+        f'{_points(group, axes[0], rows)}</div>'
         f'<h2>Operators</h2><div class="{columns}">{_operations(group.operations)}</div></div></body></html>\n'
     )
 
@@ -79,10 +79,11 @@ def _diagrams(group: SpaceGroup, axis: str) -> str:
     return f'<div class="row">{figures}</div>{_legend(found)}' + (left_out if found.inclined else "")
 
 
-def _points(group: SpaceGroup, axis: str) -> str:
-    if not any(row.is_fixed for row in group.rows):
+def _points(group: SpaceGroup, axis: str, rows: Sequence[int] | None) -> str:
+    if rows is None and not any(row.is_fixed for row in group.rows):
         return ""
-    return f"<figure><h2>Rows without a free coordinate, along {axis}</h2>{picture(draw_positions(group, None, axis))}</figure>"
+    heading = "Rows without a free coordinate" if rows is None else "Points of the rows " + ", ".join(map(str, rows))
+    return f"<figure><h2>{heading}, along {axis}</h2>{picture(draw_positions(group, rows, axis))}</figure>"
 
 
 def _axis_name(symbol: str) -> str:

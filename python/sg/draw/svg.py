@@ -89,12 +89,17 @@ def _copies(place: tuple[Fraction, ...], paper: Projection, beyond: float) -> li
     return [paper.place(u, v) for u, v in choices(*near)]
 
 
+def _words(x: float, y: float, words: str, size: float, anchor: str) -> str:
+    """A text with a white border, since it may stand on a line."""
+    return symbols.text(x, y, words, size, anchor, stroke="#fff", stroke_width=2.5, paint_order="stroke")
+
+
 def _label(labels: Labels, x: float, y: float, radius: float, words: str, size: float) -> str:
-    """A text beside a symbol of this radius, with a white border, since it may stand on a line."""
+    """A text beside a symbol of this radius."""
     if not words:
         return ""
     left, base, anchor = labels.beside(x, y, radius, [words], size)
-    return symbols.text(left, base, words, size, anchor, stroke="#fff", stroke_width=2.5, paint_order="stroke")
+    return _words(left, base, words, size, anchor)
 
 
 # ---- symmetry elements
@@ -108,7 +113,7 @@ def draw_elements(group: SpaceGroup, axis: str) -> tuple[Drawing, Elements]:
         for m, first, last in _crossings(plane.line):
             ends = [paper.place(*plane.line.point(m, multiple)) for multiple in (first, last)]
             drawn.append(symbols.plane_line(*ends, plane.glide, plane.way))
-    upright = [(axis, place) for axis in found.upright_axes for place in _copies(axis.position, paper, 0)]
+    upright = [(at, place) for at in found.upright_axes for place in _copies(at.position, paper, 0)]
     for at, place in upright:
         labels.take(around(*place, 0.75 * symbols.reach(at.symbol)))
     border, reach = _border(paper, found, labels)
@@ -242,7 +247,7 @@ def _heights(labels: Labels, x: float, y: float, radius: float, sides: list[list
     drawn = ""
     for words, at, anchor in ((proper, x - radius - 1, "end"), (improper, x + radius + 1, "start")):
         labels.take(lines_box(at, y - radius * 0.55, [words], size, anchor))
-        drawn += symbols.text(at, y - radius * 0.55, words, size, anchor)
+        drawn += _words(at, y - radius * 0.55, words, size, anchor)
     return drawn
 
 
@@ -276,7 +281,10 @@ def _joined(heights: Iterable[Height]) -> str:
 def draw_positions(group: SpaceGroup, rows: Iterable[int] | None, axis: str) -> Drawing:
     """The points in a cell of rows, which are told by their places in the table; if None, of those that have no free coordinate.
     Beside a point stand its row's place, and the heights."""
-    chosen = set(rows) if rows is not None else {row.place for row in group.rows if row.is_fixed}
+    chosen = sorted(set(rows) if rows is not None else {row.place for row in group.rows if row.is_fixed})
+    for place in chosen:
+        if not 1 <= place <= len(group.rows):
+            raise ValueError(f"no row {place}: the table has {len(group.rows)}")
     paper, seen = projection(group, axis, CELL), turned(group, axis)
     point = (Fraction(7, 60), Fraction(11, 60), Fraction(1, 12))
     places = defaultdict(lambda: defaultdict(set))
@@ -298,5 +306,5 @@ def draw_positions(group: SpaceGroup, rows: Iterable[int] | None, axis: str) -> 
         for line, (row, heights) in enumerate(words):
             text = f'<tspan font-weight="bold">{row}</tspan> {heights}'
             drawn.append(symbols.text(left, base + 8.5 * 1.15 * line, text, 8.5, anchor))
-    names = ", ".join(map(str, sorted(chosen)))
-    return Drawing(f"Points of rows {names} along {axis}", paper, "".join(drawn), 40.0)
+    names = ", ".join(map(str, chosen))
+    return Drawing(f"Points of the rows {names} along {axis}", paper, "".join(drawn), 40.0)

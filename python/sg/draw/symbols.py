@@ -7,7 +7,7 @@ each order, a tail at every vertex where a screw axis comes after so many of its
 from __future__ import annotations
 
 from fractions import Fraction
-from math import cos, gcd, hypot, pi, sin
+from math import cos, gcd, hypot, log2, pi, sin
 
 from .geometry import Glide
 
@@ -191,7 +191,7 @@ def plane_line(start: Way, end: Way, glide: Glide, way: int = 0) -> str:
     if way == 0 or length < 12:
         return drawn
     unit = (way * (end[0] - start[0]) / length, way * (end[1] - start[1]) / length)
-    count = max(1, round(length / 110))
+    count = 2 ** max(0, round(log2(length / 110)))
     for i in range(count):
         share = (i + 5 / 16) / count  # where no axis is
         tip = (start[0] + share * (end[0] - start[0]) + 5 * unit[0], start[1] + share * (end[1] - start[1]) + 5 * unit[1])

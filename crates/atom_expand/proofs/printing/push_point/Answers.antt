@@ -15,10 +15,10 @@ returns c =
     let fd : FitsSigned w128 d = search rules in
     let below = to_z-of_z fd in
     let k = c.as_bytes.ensures.value ∙ c.format.ensures.text in
-    let x = c.bytes.ensures.text ∙ c.print_frac.ensures ∙ ap₂ frac_text (to_z-of_z fx) below in
-    let y = c.bytes-2.ensures.text ∙ c.print_frac-2.ensures ∙ ap₂ frac_text (to_z-of_z fy) below in
-    let z = c.bytes-3.ensures.text ∙ c.print_frac-3.ensures ∙ ap₂ frac_text (to_z-of_z fz) below in (
+    let x = ap₂ frac_text (to_z-of_z fx) below in
+    let y = ap₂ frac_text (to_z-of_z fy) below in
+    let z = ap₂ frac_text (to_z-of_z fz) below in (
       _,
       λ _. codes "at " ++ decimal c.args.number ++ space ∷ frac_text (slice_index_or n 0 (pos 0)) d ++ space ∷ frac_text (slice_index_or n 1 (pos 0)) d ++ space ∷ frac_text (slice_index_or n 2 (pos 0)) d ++ line_feed ∷ [],
-      point_pushed _ _ _ _ _ _ _ _ _ _ (codes "at ") _ _ _ _ _ _ _ _ c.push.ensures c.push-2.ensures c.push-3.ensures c.push-4.ensures c.push-5.ensures c.push-6.ensures c.push-7.ensures c.push-8.ensures c.push-9.ensures k x y z,
+      point_pushed _ _ _ _ _ _ _ _ _ _ (codes "at ") _ _ _ _ _ _ _ _ c.push.ensures c.push-2.ensures c.push-3.ensures c.push-4.ensures.text c.push-5.ensures c.push-6.ensures.text c.push-7.ensures c.push-8.ensures.text c.push-9.ensures k x y z,
     )

@@ -20,5 +20,5 @@ pub returns : goal.returns
 returns g c =
     let points = c.args.orbit.now in
     let heading : c.bytes.result.now ≡ site_line (codes "site ") c.args.number c.args.label.now (length points) = c.bytes.ensures.text ∙ c.heading-heading.ensures.text ∙ ap (site_line (codes "site ") c.args.number c.args.label.now) c.len.ensures.value in
-    two_gathered g.K.Sink.seen (Is (site_line (codes "site ") c.args.number c.args.label.now (length points))) (AreLines (IsPointLine c.args.number) points) c.args.sink.now c.put_heading.new.sink c.args.page.now c.put_heading.new.page c.put_listed.new.sink c.put_listed.new.page
-    c.put_listed.result (rw heading at c.in_ok-put_heading.ensures.gathers) c.put_listed.ensures
+    two_gathered g.K.Sink.seen (Is (site_line (codes "site ") c.args.number c.args.label.now (length points))) (AreLines (IsPointLine c.args.number) points) c.args.sink.now c.put_heading.new.sink c.args.page.now c.put_heading.new.page c.put_points.new.sink c.put_points.new.page
+    c.put_points.result (rw heading at c.in_ok-put_heading.ensures.gathers) c.put_points.ensures
