@@ -20,3 +20,4 @@ cc -std=c99 $warnings -O1 -fsanitize=address,undefined -o "$made/static" $(pkg-c
 "$made/shared"
 "$made/static"
 SG_PROGRAM=$made/static SG_LIBRARY=$folder/lib/libsg.so PYTHONPATH=$folder/python python3 checks/library.py
+bash checks/python.sh "$folder"

@@ -31,7 +31,6 @@ from .errors import Error, Status
 from .group import Group
 from .values import (
     PARTS,
-    GridOrbit,
     Mark,
     Merged,
     MergedReflection,
@@ -52,7 +51,6 @@ __all__ = [
     "UNCERTAINTY",
     "Coordinate",
     "Error",
-    "GridOrbit",
     "Group",
     "Mark",
     "Merged",

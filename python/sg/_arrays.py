@@ -28,9 +28,6 @@ class Numbers:
         kind = _C_TYPES[code] * (self.count * width or 1)
         self.c = kind() if self.count == 0 else kind.from_buffer_copy(flat) if flat.readonly else kind.from_buffer(flat)
 
-    def rows(self) -> Any:
-        return self.view.tolist()
-
     def like_given(self, view: memoryview) -> Any:
         """An array of answers: numpy's, over the same memory, where numpy's was given."""
         return sys.modules["numpy"].asarray(view) if self.is_numpy else view
@@ -95,13 +92,13 @@ def indices(given: Any) -> Numbers:
     return Numbers("i", 3, _in_range("i", (whole(n) for row in _rows(given) for n in _three(row)), 3, "index"), _is_numpy(given))
 
 
-def values(given: Any) -> memoryview:
+def values(given: Any) -> Numbers:
     """Values of reflections or of a map: whole numbers, or a buffer of them with any shape."""
     view = _buffer(given, "i")
     if view is not None and _without_copy(view, "i", view.shape[1:]):
-        return Numbers("i", 1, view).view
+        return Numbers("i", 1, view, _is_numpy(given))
     numbers = given if view is None else _flat(_rows(given), view.ndim)
-    return Numbers("i", 1, _in_range("i", map(whole, numbers), 1, "value")).view
+    return Numbers("i", 1, _in_range("i", map(whole, numbers), 1, "value"), _is_numpy(given))
 
 
 def _flat(nested: Any, depth: int) -> Iterator[Any]:

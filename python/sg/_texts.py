@@ -13,7 +13,7 @@ from typing import Dict, Iterable, Iterator, List, Sequence, Set, Tuple
 from ._library import MAX_INPUT, answer
 from .coordinates import exact_in_range
 from .errors import out_of_range
-from .values import GridOrbit, Index, Merged, MergedReflection, Orbit, SummedMap
+from .values import Index, Merged, MergedReflection, Operator, Orbit
 
 MAX_INDEX = 10_000
 MAX_VALUE = 999_999_999
@@ -108,18 +108,23 @@ def expand(group: bytes, sites: Iterable[Tuple[str, Sequence]]) -> Tuple[Orbit, 
     return tuple(Orbit(label, tuple(points[place]), same.get(place)) for place, label in enumerate(labels))
 
 
-def symmetrize(group: bytes, values: Iterable[int], grid: Index) -> SummedMap:
+def symmetrize(group: bytes, operators: Iterable[Operator], values: Iterable[int], grid: Index) -> Tuple[array, int]:
+    """At each grid point the sum over its orbit, which the text tells at the first point of the orbit; and the sum of all."""
     lines = []
     for place, value in enumerate(values):
         if abs(value) > MAX_VALUE:
             raise out_of_range(f"value {value}", place)
         lines.append(f"{value}\n")
     *told, total = answer(_words("map", grid), _data(group, lines)).splitlines()
-    return SummedMap(tuple(_grid_orbit(line.split(" ")) for line in told), int(total.split(" ")[1]))
-
-
-def _grid_orbit(texts: Sequence[str]) -> GridOrbit:
-    return GridOrbit(_integers(texts[:3]), int(texts[3]), int(texts[4]))
+    a, b, c = grid
+    sums = array("q", [0]) * (a * b * c)
+    for line in told:
+        *point, _, summed = map(int, line.split(" "))
+        for op in operators:
+            image = op(*(Fraction(step, steps) for step, steps in zip(point, grid)))
+            i, j, k = (int(value * steps) % steps for value, steps in zip(image, grid))
+            sums[(i * b + j) * c + k] = summed
+    return sums, int(total.split(" ")[1])
 
 
 def basis(group: bytes, change: str) -> str:

@@ -185,9 +185,9 @@ class Group:
         at most 999,999,999 in size, and the indices at most 10,000; otherwise an Error (OUT_OF_RANGE) tells the place of the first
         that is not."""
         asked, given = _arrays.indices(indices), _arrays.values(values)
-        if asked.count != len(given):
-            raise Error(Status.WRONG_COUNT, f"sg: {asked.count} indices, but {len(given)} values")
-        return _texts.merge(self._open_text(), asked.rows(), given, friedel)
+        if asked.count != given.count:
+            raise Error(Status.WRONG_COUNT, f"sg: {asked.count} indices, but {given.count} values")
+        return _texts.merge(self._open_text(), asked.view.tolist(), given.view, friedel)
 
     # ---- points
 
@@ -239,11 +239,13 @@ class Group:
     # ---- maps
 
     def symmetrize(self, map: Any, a: int, b: int, c: int) -> SummedMap:
-        """The sums of a map over the orbits of a grid, of the points i/a, j/b, k/c. The map has a value for each point of a cell, by i,
-        then by j, then by k: whole numbers, at most 999,999,999 in size, or a buffer of them, as of shape (a, b, c). Refused: a
-        grid that the group does not keep (NOT_KEPT), another number of values (WRONG_COUNT), a number of a grid beyond 2048 or more
-        than 2,097,152 points, or a value beyond its range (OUT_OF_RANGE)."""
-        return _texts.symmetrize(self._open_text(), _arrays.values(map), (a, b, c))
+        """A map summed over the orbits of the group: its values at the points i/a, j/b, k/c, by i, then by j, then by k. They are
+        whole numbers, at most 999,999,999 in size, in a list or a buffer, as of shape (a, b, c). Refused: a grid that the group
+        does not keep (NOT_KEPT), another number of values (WRONG_COUNT), a number of a grid beyond 2048 or more than 2,097,152
+        points, and a value beyond its range (OUT_OF_RANGE)."""
+        values = _arrays.values(map)
+        sums, total = _texts.symmetrize(self._open_text(), self.operators, values.view, (a, b, c))
+        return SummedMap(values.like_given(memoryview(sums).cast("B").cast("q", (a, b, c)) if values.is_numpy else memoryview(sums)), total)
 
     # ---- other coordinates
 

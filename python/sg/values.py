@@ -165,16 +165,9 @@ class Orbit(NamedTuple):
     same_as: Optional[int]
 
 
-class GridOrbit(NamedTuple):
-    """The first point of an orbit of a grid; how many points of a cell are in it; and the sum of the map over them."""
-
-    point: Index
-    size: int
-    sum: int
-
-
 class SummedMap(NamedTuple):
-    """The orbits of a grid, ascending by their first points, and the sum of all values."""
+    """For each grid point, in the order of the map, the sum of the map over the points of its orbit in a cell: an array of 64 bits, of
+    shape (a, b, c) where it is numpy's. And the sum of the whole map. The sums of a map of ones are how many points the orbits have."""
 
-    orbits: Tuple[GridOrbit, ...]
+    sums: Any
     total: int

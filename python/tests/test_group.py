@@ -396,22 +396,18 @@ class Maps(Refusals):
     def test_sums(self):
         # The worked example of P2_1/c.
         values = [0, -7, 28, -63, 112, -175, 252, -343, 448, -567, 700, -847, 1008, -1183, 1372, -1575]
-        wanted = (
-            ((0, 0, 0), 2, -175),
-            ((0, 0, 1), 2, 105),
-            ((0, 1, 0), 4, -126),
-            ((1, 0, 0), 2, -735),
-            ((1, 0, 1), 2, 441),
-            ((1, 1, 0), 4, -350),
-        )
+        # The sums at the first points of the orbits are told there; the others follow by -x,-y,-z and x,-y+1/2,z+1/2.
+        wanted = [-175, 105, -126, -126, 105, -175, -126, -126, -735, 441, -350, -350, 441, -735, -350, -350]
         shaped = memoryview(array("i", values)).cast("B").cast("i", (2, 4, 2))
         for given in (values, iter(values), array("i", values), array("q", values), shaped):
             with self.subTest(type(given)):
-                self.assertEqual(sg.Group(P21C).symmetrize(given, 2, 4, 2), (wanted, -840))
+                summed = sg.Group(P21C).symmetrize(given, 2, 4, 2)
+                self.assertEqual((summed.sums.tolist(), summed.total), (wanted, -840))
 
     def test_ends_of_the_range(self):
         for value in (999_999_999, -999_999_999):
-            self.assertEqual(sg.Group("").symmetrize([value], 1, 1, 1), ((((0, 0, 0), 1, value),), value))
+            summed = sg.Group("x+1/2,y,z").symmetrize([value] * 2, 2, 1, 1)
+            self.assertEqual((summed.sums.tolist(), summed.total), ([2 * value] * 2, 2 * value))
 
     def test_refused(self):
         symmetrize = sg.Group(P21C).symmetrize

@@ -83,7 +83,8 @@ class Arrays(unittest.TestCase):
         self.assertEqual(sums, [((1, 1, 1), 5), ((1, 0, 1), 0), ((0, 3, 0), 7), ((0, 2, 0), 40)])
         self.assertEqual(merged.observed_absences, ((0, 3, 0),))
         summed = sg.Group("-x,-y,-z").symmetrize(numpy.array([5, 6, 7]).reshape(3, 1, 1), 3, 1, 1)
-        self.assertEqual(summed, ((((0, 0, 0), 1, 5), ((1, 0, 0), 2, 13)), 18))
+        self.assertIsInstance(summed.sums, numpy.ndarray)
+        self.assertEqual((summed.sums.tolist(), summed.total), ([[[5]], [[13]], [[13]]], 18))
 
 
 if __name__ == "__main__":
