@@ -107,9 +107,12 @@ static void ask_nothing(sg_group *group)
     sg_operator op;
     sg_operator_type type;
     sg_row row;
+    sg_merged_class class;
     sg_reflection_marks marks;
     sg_site_counts site;
     size_t place, count = 77;
+    const int32_t value = 0;
+    int64_t sum = 0, total = 0;
     const sg_index index = {0, 0, 0};
     const sg_point origin = {{0, 1}, {0, 1}, {0, 1}};
     expect("order of none", sg_group_order(group), 0);
@@ -123,6 +126,8 @@ static void ask_nothing(sg_group *group)
     expect("types of none", sg_group_types(group, &type, 1), SG_EMPTY);
     expect("count of none", sg_rows_count(group, &count), SG_EMPTY);
     expect("rows of none", sg_rows(group, &row, 1), SG_EMPTY);
+    expect("merge of none", sg_merge(group, true, &index, 1, &value, 1, &class, 1, &place, &count), SG_EMPTY);
+    expect("map of none", sg_symmetrize(group, 1, 1, 1, &value, 1, &sum, 1, &total), SG_EMPTY);
     refuse_arrays(group);
 }
 
@@ -226,6 +231,110 @@ static void ask_p21c_arrays(sg_group *group)
     refuse_arrays(group);
 }
 
+/* A change through the handle, and the same change as the command answers it. */
+static void change_as_command(sg_group *group, const char *input, const char *words, const sg_operator *change, uint8_t over)
+{
+    static uint8_t text[4096], fault[SG_MAX_FAULT];
+    sg_group changed = SG_NO_GROUP, told = SG_NO_GROUP;
+    sg_operator ops[SG_MAX_ORDER], same[SG_MAX_ORDER];
+    sg_lengths lengths;
+    uint32_t line;
+    uint16_t order;
+    expect("answer", sg_answer((const uint8_t *)words, strlen(words), (const uint8_t *)input, strlen(input), text, sizeof text,
+                               fault, sizeof fault, &lengths), SG_OK);
+    expect("told", sg_group_close(text, lengths.text, &told, &line), SG_OK);
+    if (over == 0)
+        expect(words, sg_group_basis(group, change, &changed), SG_OK);
+    else
+        expect(words, sg_group_recell(group, change, over, &changed), SG_OK);
+    order = sg_group_order(&told);
+    expect("order", sg_group_order(&changed), order);
+    expect("operators", sg_group_operators(&changed, ops, order), SG_OK);
+    expect("operators", sg_group_operators(&told, same, order), SG_OK);
+    expect("as the command", memcmp(ops, same, order * sizeof *ops), 0);
+    sg_group_free(&changed);
+    sg_group_free(&told);
+}
+
+static void ask_changes(sg_group *group)
+{
+    static const char input[] = "-x,y+1/2,-z+1/2\n-x,-y,-z\n";
+    const sg_operator turned = {{0, 1, 0, 0, 0, 1, 1, 0, 0}, {6, 0, 12}}, fine = {{1, 0, 0, 0, 1, 0, 0, 0, 1}, {0, 0, 24}};
+    const sg_operator flat = {{1, 0, 0, 0, 1, 0, 0, 0, 0}, {0, 0, 0}}, wide = {{1, 3, 0, 0, 1, 0, 0, 0, 1}, {0, 0, 0}};
+    const sg_operator same = {{1, 0, 0, 0, 1, 0, 0, 0, 1}, {0, 0, 0}}, halved = {{2, 0, 0, 0, 1, 0, 0, 0, 1}, {0, 0, 0}};
+    const sg_index indices[3] = {{0, -3, 0}, {-1, -1, -1}, {-1, 2, 3}};
+    sg_index keys[3];
+    sg_group changed = SG_NO_GROUP;
+    size_t bad = 77;
+    change_as_command(group, input, "basis\ny+1/4,z,x+1/2", &turned, 0);
+    change_as_command(group, input, "recell\n2\nx,2y,2z", &(const sg_operator){{1, 0, 0, 0, 2, 0, 0, 0, 2}, {0, 0, 0}}, 2);
+    expect("no inverse", sg_group_basis(group, &flat, &changed), SG_OUT_OF_RANGE);
+    expect("translation", sg_group_basis(group, &fine, &changed), SG_OUT_OF_RANGE);
+    expect("entry", sg_group_basis(group, &wide, &changed), SG_NOT_KEPT);
+    expect("no inverse", sg_group_recell(group, &flat, 1, &changed), SG_OUT_OF_RANGE);
+    expect("no denominator", sg_group_recell(group, &same, 0, &changed), SG_OUT_OF_RANGE);
+    expect("no cell", sg_group_recell(group, &halved, 1, &changed), SG_NOT_KEPT);
+    expect("none is held", sg_group_order(&changed), 0);
+    expect("of none", sg_group_basis(&changed, &same, group), SG_EMPTY);
+    expect("freed", sg_group_order(group), 0);
+    expect("close again", close_text(group, input, &(uint32_t){0}), SG_OK);
+    expect("keys", sg_class_keys(group, true, indices, 3, keys, 3, &bad), SG_OK);
+    expect("key", keys[0].h == 0 && keys[0].k == 3 && keys[0].l == 0, 1);
+    expect("key", keys[1].h == 1 && keys[1].k == 1 && keys[1].l == 1, 1);
+    expect("key", keys[2].h == 1 && keys[2].k == 2 && keys[2].l == -3, 1);
+    expect("lengths", sg_class_keys(group, true, indices, 3, keys, 2, &bad), SG_WRONG_COUNT);
+    expect("no place", (long)bad, 77);
+}
+
+/* The indices of five reflections of P 2_1/c, of three classes, one of them absent. */
+static void ask_merge(sg_group *group)
+{
+    const sg_index indices[5] = {{1, 2, 3}, {0, 3, 0}, {-1, 2, -3}, {-1, -1, -1}, {1, -2, 3}};
+    const sg_index far[2] = {{1, 2, 3}, {0, 0, 10001}};
+    const int32_t values[5] = {INT32_MAX, -4, INT32_MAX, 0, 7};
+    sg_merged_class classes[4];
+    size_t count = 77, bad = 77;
+    classes[0].count = classes[3].count = 77;
+    expect("values", sg_merge(group, true, indices, 5, values, 4, classes, 4, &count, &bad), SG_WRONG_COUNT);
+    expect("room", sg_merge(group, true, indices, 5, values, 5, classes, 2, &count, &bad), SG_WRONG_COUNT);
+    expect("no place", (long)bad, 77);
+    expect("range", sg_merge(group, true, far, 2, values, 2, classes, 4, &count, &bad), SG_OUT_OF_RANGE);
+    expect("place", (long)bad, 1);
+    expect("unwritten", count == 77 && classes[0].count == 77, 1);
+    expect("merge", sg_merge(group, true, indices, 5, values, 5, classes, 4, &count, &bad), SG_OK);
+    expect("classes", (long)count, 3);
+    expect("key", classes[0].key.h == 1 && classes[0].key.k == 2 && classes[0].key.l == 3, 1);
+    expect("count", classes[0].count, 3);
+    expect("sum", (long)classes[0].sum, 2 * (long)INT32_MAX + 7);
+    expect("present", classes[0].absent || classes[0].observed, 0);
+    expect("key", classes[1].key.h == 1 && classes[1].key.k == 1 && classes[1].key.l == 1, 1);
+    expect("sum", (long)classes[1].sum, 0);
+    expect("key", classes[2].key.h == 0 && classes[2].key.k == 3 && classes[2].key.l == 0, 1);
+    expect("absent", classes[2].absent && classes[2].observed, 1);
+    expect("behind", classes[3].count, 77);
+}
+
+/* Each point of P 2_1/c on a grid of 2, 2 and 2 has an image beside it, and none has more on this grid. */
+static void ask_map(sg_group *group)
+{
+    const int32_t values[8] = {1, 20, 300, 4000, -50000, 600000, 7000000, INT32_MAX};
+    const int64_t wanted[8] = {4001, 320, 320, 4001, (int64_t)INT32_MAX - 50000, 7600000, 7600000, (int64_t)INT32_MAX - 50000};
+    int64_t sums[8], total = 77;
+    int i;
+    for (i = 0; i < 8; i++)
+        sums[i] = 77;
+    expect("side", sg_symmetrize(group, 2, 0, 2, values, 0, sums, 0, &total), SG_OUT_OF_RANGE);
+    expect("points", sg_symmetrize(group, SG_MAX_SIDE, SG_MAX_SIDE, 2, values, 8, sums, 8, &total), SG_OUT_OF_RANGE);
+    expect("values", sg_symmetrize(group, 2, 2, 2, values, 7, sums, 8, &total), SG_WRONG_COUNT);
+    expect("sums", sg_symmetrize(group, 2, 2, 2, values, 8, sums, 7, &total), SG_WRONG_COUNT);
+    expect("grid", sg_symmetrize(group, 8, 1, 1, values, 8, sums, 8, &total), SG_NOT_KEPT);
+    expect("unwritten", total == 77 && sums[0] == 77 && sums[7] == 77, 1);
+    expect("map", sg_symmetrize(group, 2, 2, 2, values, 8, sums, 8, &total), SG_OK);
+    for (i = 0; i < 8; i++)
+        expect("sum", (long)sums[i], (long)wanted[i]);
+    expect("total", (long)total, (long)INT32_MAX + 7554321);
+}
+
 static int ask(void)
 {
     sg_group group = SG_NO_GROUP;
@@ -234,6 +343,9 @@ static int ask(void)
     ask_p21c_arrays(&group);
     ask_p21c(&group);
     ask_p21c_arrays(&group);
+    ask_changes(&group);
+    ask_map(&group);
+    ask_merge(&group);
     refuse(&group, "x,y,z\n\nx,y\n", SG_UNREADABLE, 3);
     ask_p21c(&group);
     refuse(&group, "2x,y,z", SG_NOT_UNIMODULAR, 1);

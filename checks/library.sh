@@ -19,5 +19,11 @@ cc -std=c99 $warnings -O1 -o "$made/shared" $(pkg-config --cflags sg) checks/lib
 cc -std=c99 $warnings -O1 -fsanitize=address,undefined -o "$made/static" $(pkg-config --cflags sg) checks/library.c "$folder/lib/libsg.a"
 "$made/shared"
 "$made/static"
+
+# The program that the document shows.
+awk '/^```c$/ { shown = 1; next } /^```$/ { shown = 0 } shown' docs/library.md >"$made/shown.c"
+cc -std=c99 $warnings -o "$made/shown" $(pkg-config --cflags sg) "$made/shown.c" "$folder/lib/libsg.a"
+[ "$("$made/shown")" = "$(printf '2 equivalent, absent\n2 equivalent, present\n4 equivalent, present')" ]
+
 SG_PROGRAM=$made/static SG_LIBRARY=$folder/lib/libsg.so PYTHONPATH=$folder/python python3 checks/library.py
 bash checks/python.sh "$folder"

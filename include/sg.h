@@ -68,6 +68,10 @@ enum {
 #define SG_MAX_INPUT 1048576          /* the most bytes that an input has */
 #define SG_MAX_FAULT 160              /* room for the text of each fault */
 #define SG_MAX_INDEX 10000            /* the greatest size of h, k and l */
+#define SG_MAX_ENTRY 2304             /* the greatest size of an entry of a change of the basis */
+#define SG_MAX_CELL 12                /* and of one of the cell, and its greatest denominator */
+#define SG_MAX_SIDE 2048              /* the most points of a grid along an axis */
+#define SG_MAX_POINTS 2097152         /* and in a cell */
 #define SG_MAX_NUMERATOR 1000000000   /* the greatest size of a numerator of a coordinate */
 #define SG_MAX_DENOMINATOR 1000000    /* the greatest denominator of a coordinate; it is positive */
 
@@ -143,6 +147,22 @@ uint8_t sg_group_operator(sg_group *group, uint32_t place, sg_operator *op);
 uint8_t sg_group_operators(sg_group *group, sg_operator *ops, size_t ops_count);
 uint8_t sg_group_types(sg_group *group, sg_operator_type *types, size_t types_count);
 
+/* ---- The group in other coordinates. */
+
+/*
+ * Takes the group to another basis and origin, by x -> W x + t / SG_PARTS, or to a cell of another volume, by
+ * x -> W x / over + t / SG_PARTS; the other sg_group then holds it. A group that this one held before is freed, in any case; where
+ * the status is not 0, it holds none. The two are different, and the first is as it was.
+ *
+ * W has entries up to SG_MAX_ENTRY in size and an inverse in whole numbers; of a change of the cell, entries up to SG_MAX_CELL and a
+ * determinant other than 0, and over is 1 to SG_MAX_CELL. t is 0 to SG_PARTS - 1.
+ * SG_NOT_KEPT comes where an operator would have an entry beyond 2; and after a change of the cell, where the translations by its
+ * axes are none of the group, where an operator would not be whole or finer than 1 / SG_PARTS, or where there would be more than
+ * SG_MAX_ORDER operators. Statuses: SG_OK, SG_OUT_OF_RANGE, SG_NOT_KEPT, SG_NO_MEMORY, SG_EMPTY.
+ */
+uint8_t sg_group_basis(sg_group *group, const sg_operator *change, sg_group *changed);
+uint8_t sg_group_recell(sg_group *group, const sg_operator *change, uint8_t over, sg_group *changed);
+
 /*
  * ---- Arrays of questions.
  *
@@ -185,6 +205,33 @@ typedef struct {
 /* The same for each index of an array. */
 uint8_t sg_reflections(sg_group *group, bool friedel, const sg_index *indices, size_t indices_count,
                        sg_reflection_marks *marks, size_t marks_count, size_t *bad);
+
+/*
+ * For each index of an array, writes the greatest of those that are equivalent to it: by h, then by k, then by l. Indices are
+ * equivalent where these are the same. It can be beyond SG_MAX_INDEX.
+ */
+uint8_t sg_class_keys(sg_group *group, bool friedel, const sg_index *indices, size_t indices_count,
+                      sg_index *keys, size_t keys_count, size_t *bad);
+
+/* What was measured of a class of equivalent reflections. */
+typedef struct {
+    int64_t sum;    /* the sum of the values */
+    sg_index key;   /* the greatest index of the class, as of sg_class_keys */
+    uint32_t count; /* how many of the indices are of the class */
+    bool absent;    /* whether it is systematically absent */
+    bool observed;  /* whether it is, and one of the values is not 0 */
+} sg_merged_class;
+
+/*
+ * Merges values by the classes of their indices. count becomes the number of classes, which are written to the front of the array
+ * by their keys, descending; there are at most as many as indices. values has a value for each index. Where the status is not 0,
+ * nothing but bad is written, as of each call with an array of questions. Statuses: SG_OK, SG_OUT_OF_RANGE, SG_NO_MEMORY, SG_EMPTY,
+ * and SG_WRONG_COUNT where there are not as many values as indices, more than 2^32 - 1 of them, or more classes than the array has
+ * room for.
+ */
+uint8_t sg_merge(sg_group *group, bool friedel, const sg_index *indices, size_t indices_count,
+                 const int32_t *values, size_t values_count,
+                 sg_merged_class *classes, size_t classes_room, size_t *count, size_t *bad);
 
 /* ---- Points. */
 
@@ -243,6 +290,18 @@ uint8_t sg_rows(sg_group *group, sg_row *rows, size_t rows_count);
 /* For each point of an array, writes the place of the one row that it fits, from 0. */
 uint8_t sg_fit(sg_group *group, const sg_point *points, size_t points_count,
                size_t *places, size_t places_count, size_t *bad);
+
+/* ---- Maps. */
+
+/*
+ * Sums the values at the points of a grid over their orbits: at each grid point of a cell the sum of the values at the points of its
+ * orbit in the cell, each taken once. The point i/a, j/b, k/c has the place (i * b + j) * c + k in both arrays, and both counts
+ * are a * b * c. a, b and c are 1 to SG_MAX_SIDE, and a * b * c is at most SG_MAX_POINTS. total becomes the sum of all values.
+ * Where the status is not 0, nothing is written. SG_NOT_KEPT comes exactly where some operator takes a point of the grid to another
+ * point. Statuses: SG_OK, SG_OUT_OF_RANGE, SG_WRONG_COUNT, SG_NOT_KEPT, SG_NO_MEMORY, SG_EMPTY.
+ */
+uint8_t sg_symmetrize(sg_group *group, uint16_t a, uint16_t b, uint16_t c, const int32_t *values, size_t values_count,
+                      int64_t *sums, size_t sums_count, int64_t *total);
 
 #ifdef __cplusplus
 }

@@ -1,7 +1,10 @@
 pub mod Arrays
+pub mod Changes
 pub mod Groups
 pub mod Held
+pub mod Maps
 pub mod Members
+pub mod Merging
 pub mod Positions
 pub mod Questions
 pub mod Texts

@@ -15,6 +15,7 @@ use Rattle.phase_rules.specs.declared.parts.Mark.TheVariants.{Absent, Free, Phas
 use Rattle.phase_rules.specs.Equivalent.{IsClass, fixes}
 use Rattle.phase_rules.specs.Marks.{IsMark}
 use Rattle.phase_rules.specs.Rows.{Row}
+use Rattle.refl_merge.specs.Keys.{IsClassKey}
 use Rattle.sg_c.specs.declared.questions.Coordinates.{Coordinates}
 use Rattle.sg_c.specs.declared.questions.IndexNumbers.{IndexNumbers}
 use Rattle.sg_c.specs.declared.questions.Reflection.{Reflection}
@@ -46,6 +47,10 @@ IsIndexInRange i = AreWithin MAX_INDEX i.h i.k i.l
 -- what symmetry says of the reflection with these numbers
 abbrev pub IsReflectionAt : Pairs → List lattice.Operator → IndexNumbers → Reflection → Type 0
 IsReflectionAt pairs members i r = IsReflection pairs members (record { h = i.h; k = i.k; l = i.l }) r
+
+-- the greatest index that is equivalent to that with these numbers
+abbrev pub IsKeyAt : Pairs → List lattice.Operator → IndexNumbers → IndexNumbers → Type 0
+IsKeyAt pairs members i key = IsClassKey pairs members (record { h = i.h; k = i.k; l = i.l }) (record { h = key.h; k = key.k; l = key.l })
 
 -- the coordinates, each as its numerator and its denominator
 abbrev pub pairs_in : Coordinates → List (ℤ × ℤ)

@@ -9,11 +9,14 @@
 
 mod answer;
 mod arrays;
+mod changes;
 mod group;
 mod handle;
 mod kept;
 mod loose;
+mod maps;
 mod members;
+mod merging;
 mod positions;
 mod questions;
 mod slice_source;
@@ -22,6 +25,9 @@ mod words;
 
 /// The status of a call that asks for what is out of range, as that of words that are no command in range.
 pub const OUT_OF_RANGE: u8 = 2;
+
+/// The status of a change of which no group comes, as that of the program.
+pub const NOT_KEPT: u8 = 8;
 
 /// The status of a call that wanted memory, as that of the program.
 pub const NO_MEMORY: u8 = 9;

@@ -8,7 +8,7 @@ ghost use Rattle.exact_ops.specs.Points.{AreCoordinatesInRange, HasCoordinates};
 ghost use Rattle.space_groups.specs.Lists.{IsSiteList, IsOrbitList};
 ghost use Rattle.phase_rules.specs.declared.TheConstants.{MAX_INDEX};
 ghost use Rattle.sg_c.specs.Arrays.{IsEachAnswered};
-ghost use Rattle.sg_c.specs.Questions.{IsMarkedAs, IsReflection, IsReflectionAt, IsIndexInRange, IsSite, IsSiteAt, IsPointInRange, pairs_in, pairs_of};
+ghost use Rattle.sg_c.specs.Questions.{IsMarkedAs, IsReflection, IsReflectionAt, IsIndexInRange, IsKeyAt, IsSite, IsSiteAt, IsPointInRange, pairs_in, pairs_of};
 ghost use Rattle.sg_c.specs.declared.TheConstants.{OUT_OF_RANGE, EMPTY};
 
 use crate::arrays::{Asking, ask_each};
@@ -20,6 +20,7 @@ use orbit_map::multiplicity;
 use phase_rules::parts::Mark;
 use phase_rules::tallies::Tally;
 use phase_rules::{Index, Pairs};
+use refl_merge::class_key;
 use site_symmetry::order_at;
 use std::alloc::Global;
 
@@ -100,7 +101,7 @@ fn code_of(mark: Mark) -> (u8, u8)
     }
 }
 
-fn pairs_of(friedel: bool) -> Pairs
+pub fn pairs_of(friedel: bool) -> Pairs
     ensures { result ≡ pairs_of friedel }
 {
     if friedel {
@@ -208,6 +209,52 @@ fn site_of(group: &Group, point: &Point) -> Site
         order: order_at(group, point),
         multiplicity: multiplicity(group, point),
     }
+}
+
+/// Asks for the classes of reflections.
+#[derive(Clone, Copy)]
+pub struct AskKey {
+    pub pairs: Pairs,
+}
+
+impl Asking for AskKey {
+    type Question = IndexNumbers;
+
+    type Answer = IndexNumbers;
+
+    ghost can_ask = { IsIndexInRange };
+
+    ghost is_answer = { λ asking members index key. IsKeyAt asking.pairs members index key };
+
+    fn can_ask(index: &IndexNumbers) -> bool {
+        Index::of(index.h, index.k, index.l).is_some()
+    }
+
+    fn answer(&self, group: &Group, index: &IndexNumbers) -> IndexNumbers {
+        let IndexNumbers { h, k, l } = *index;
+        let [h, k, l] = class_key(group, &Index { h, k, l }, self.pairs);
+        IndexNumbers { h, k, l }
+    }
+}
+
+/// Writes the greatest index that is equivalent to each, at its place, with Friedel's law where it is asked for.
+#[unsafe(no_mangle)]
+pub extern "C" fn sg_class_keys(
+    alloc: Global,
+    group: &mut Handle,
+    friedel: bool,
+    indices: &[IndexNumbers],
+    keys: &mut [IndexNumbers],
+    bad: &mut usize,
+) -> u8
+    ensures answered { IsEachAnswered IsIndexInRange (IsKeyAt (pairs_of friedel))
+        group.old.group indices.now keys.old keys.new bad.old bad.new result }
+    ensures same { group.new.group ≡ group.old.group }
+{
+    let asking = AskKey {
+        pairs: pairs_of(friedel),
+    };
+    ask_each(alloc, group, &asking, indices, keys, bad)
 }
 
 /// Writes the order of the site-symmetry group of the point and how many points its orbit has in a cell.
