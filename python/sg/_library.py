@@ -43,6 +43,10 @@ class ReflectionMarks(ctypes.Structure):
     _fields_ = [("class_size", c_uint16), ("fixers", c_uint16), ("mark", c_uint8), ("phase", c_uint8)]
 
 
+class MergedClass(ctypes.Structure):
+    _fields_ = [("sum", c_int64), ("key", c_int32 * 3), ("count", c_uint32), ("absent", c_bool), ("observed", c_bool)]
+
+
 class SiteCounts(ctypes.Structure):
     _fields_ = [("order", c_uint16), ("multiplicity", c_uint16)]
 
@@ -53,7 +57,9 @@ class RowParts(ctypes.Structure):
 
 # An index is three of c_int32, and a point is three numerators each with its denominator.
 Indices = POINTER(c_int32)
+Values = POINTER(c_int32)
 Points = POINTER(c_int64)
+Sums = POINTER(c_int64)
 
 
 @functools.lru_cache(maxsize=None)
@@ -72,11 +78,14 @@ def library() -> ctypes.CDLL:
         ("sg_group_types", c_uint8, (group, POINTER(TypeParts), c_size_t)),
         ("sg_reflection", c_uint8, (group, c_int32, c_int32, c_int32, c_bool, POINTER(ReflectionMarks))),
         ("sg_reflections", c_uint8, (group, c_bool, Indices, c_size_t, POINTER(ReflectionMarks), c_size_t, place)),
+        ("sg_class_keys", c_uint8, (group, c_bool, Indices, c_size_t, Indices, c_size_t, place)),
+        ("sg_merge", c_uint8, (group, c_bool, Indices, c_size_t, Values, c_size_t, POINTER(MergedClass), c_size_t, place, place)),
         ("sg_site", c_uint8, (group, Points, POINTER(SiteCounts))),
         ("sg_sites", c_uint8, (group, Points, c_size_t, POINTER(SiteCounts), c_size_t, place)),
         ("sg_rows_count", c_uint8, (group, place)),
         ("sg_rows", c_uint8, (group, POINTER(RowParts), c_size_t)),
         ("sg_fit", c_uint8, (group, Points, c_size_t, place, c_size_t, place)),
+        ("sg_symmetrize", c_uint8, (group, *3 * (c_uint16,), Values, c_size_t, Sums, c_size_t, Sums)),
     ):
         function = getattr(loaded, name)
         function.restype = result

@@ -12,6 +12,8 @@ from typing import Any, Dict, Iterable, Iterator, Optional, Sequence, Tuple, Uni
 from . import _arrays, _texts
 from ._library import (
     Handle,
+    Indices,
+    MergedClass,
     OperatorParts,
     ReflectionMarks,
     RowParts,
@@ -28,6 +30,7 @@ from .values import (
     PARTS,
     Mark,
     Merged,
+    MergedReflection,
     Operator,
     OperatorType,
     Orbit,
@@ -180,14 +183,29 @@ class Group:
         most 200, and there are at most 2,097,152 indices; otherwise OUT_OF_RANGE."""
         return self.reflections(_texts.classes(self._open_text(), (h, k, l), friedel), friedel)
 
+    def class_keys(self, indices: Any, friedel: bool = True) -> Any:
+        """For each of many reflections the greatest index that is equivalent to it, by h, then by k, then by l: an array of shape
+        (n, 3). Reflections are equivalent where these are the same. The indices are those of `reflections`; a greatest index may
+        be beyond their range."""
+        asked = _arrays.indices(indices)
+        keys, memory = _arrays.answers(ctypes.c_int32 * 3, asked.count)
+        self._ask("index", "sg_class_keys", friedel, asked.c, asked.count, ctypes.cast(keys, Indices), asked.count)
+        return asked.like_given(memory.cast("i", (asked.count, 3)) if asked.count else memory.cast("i"))
+
     def merge(self, indices: Any, values: Any, friedel: bool = True) -> Merged:
-        """The classes of measured reflections, with the sums of their values. The values are whole numbers, one for each index,
-        at most 999,999,999 in size, and the indices at most 10,000; otherwise an Error (OUT_OF_RANGE) tells the place of the first
-        that is not."""
+        """The classes of measured reflections, with the sums of their values. The values are whole numbers of 32 bits, one for each
+        index (WRONG_COUNT); the indices are those of `reflections`."""
         asked, given = _arrays.indices(indices), _arrays.values(values)
         if asked.count != given.count:
             raise Error(Status.WRONG_COUNT, f"sg: {asked.count} indices, but {given.count} values")
-        return _texts.merge(self._open_text(), asked.view.tolist(), given.view, friedel)
+        classes, _ = _arrays.answers(MergedClass, asked.count)
+        count = ctypes.c_size_t()
+        self._ask("index", "sg_merge", friedel, asked.c, asked.count, given.c, given.count, classes, asked.count, ctypes.byref(count))
+        told = classes[: count.value]
+        return Merged(
+            tuple(MergedReflection(tuple(one.key), one.count, one.sum, one.absent) for one in told),
+            tuple(tuple(one.key) for one in told if one.observed),
+        )
 
     # ---- points
 
@@ -240,12 +258,17 @@ class Group:
 
     def symmetrize(self, map: Any, a: int, b: int, c: int) -> SummedMap:
         """A map summed over the orbits of the group: its values at the points i/a, j/b, k/c, by i, then by j, then by k. They are
-        whole numbers, at most 999,999,999 in size, in a list or a buffer, as of shape (a, b, c). Refused: a grid that the group
-        does not keep (NOT_KEPT), another number of values (WRONG_COUNT), a number of a grid beyond 2048 or more than 2,097,152
-        points, and a value beyond its range (OUT_OF_RANGE)."""
-        values = _arrays.values(map)
-        sums, total = _texts.symmetrize(self._open_text(), self.operators, values.view, (a, b, c))
-        return SummedMap(values.like_given(memoryview(sums).cast("B").cast("q", (a, b, c)) if values.is_numpy else memoryview(sums)), total)
+        whole numbers of 32 bits, in a list or a buffer, as of shape (a, b, c); one of int32 that may be written to is not copied.
+        Refused: a grid that the group does not keep (NOT_KEPT), another number of values (WRONG_COUNT), and a number of a grid
+        beyond 2048 or more than 2,097,152 points (OUT_OF_RANGE)."""
+        grid, given, total = tuple(whole(number) for number in (a, b, c)), _arrays.values(map), ctypes.c_int64()
+        sums, memory = _arrays.answers(ctypes.c_int64, given.count)
+        # ctypes would cut off what is longer.
+        if any(number < 0 or 16 < number.bit_length() for number in grid):
+            raise out_of_range(f"grid {a} {b} {c}")
+        status = self._call("sg_symmetrize", *grid, given.c, given.count, sums, given.count, ctypes.byref(total))
+        _check(status, f"grid {a} {b} {c}")
+        return SummedMap(given.like_given(memory.cast("q", grid) if given.is_numpy else memory.cast("q")), total.value)
 
     # ---- other coordinates
 
@@ -294,11 +317,19 @@ def _row(parts: RowParts, order: int, form: str) -> Row:
     return Row(parts.multiplicity, tuple(tuple(m[place : place + 3]) for place in (0, 3, 6)), shift, form)
 
 
+_FAULTS = {
+    Status.NOT_KEPT: "grid is not kept",
+    Status.NO_MEMORY: "no memory",
+    Status.WRONG_COUNT: "wrong number of values",
+    Status.EMPTY: "the group is closed",
+}
+
+
 def _check(status: int, what: str = "", place: Optional[int] = None) -> None:
     if status == Status.OUT_OF_RANGE:
         raise out_of_range(what, place)
     if status != Status.OK:
-        raise Error(status, "sg: " + {Status.NO_MEMORY: "no memory", Status.EMPTY: "the group is closed"}[Status(status)])
+        raise Error(status, "sg: " + _FAULTS[Status(status)])
 
 
 def _closing_text(status: int, line: int) -> str:

@@ -92,6 +92,7 @@ class Collection(Refusals):
             lambda: group.reflection(0, 0, 0),
             lambda: group.reflections([(0, 0, 0)]),
             lambda: group.classes(1, 1, 1),
+            lambda: group.class_keys([]),
             lambda: group.merge([], []),
             lambda: group.site(0, 0, 0),
             lambda: group.sites([(0, 0, 0)]),
@@ -282,24 +283,38 @@ class Reflections(Refusals):
         self.assertEqual(apart.observed_absences, ((0, 0, 1), (0, 0, -1)))
         self.assertEqual(group.merge([], []), ((), ()))
 
-    def test_merge_of_more_than_one_input(self):
-        # As lines these have more bytes than an input may have.
+    def test_sums_beyond_32_bits(self):
+        # More lines than a command takes.
         count = 150_000
-        merged = self.group.merge([(0, 1, 0), (1, 1, 1), (0, -1, 0)] * (count // 3), [999_999_999] * (count - 1) + [0])
+        merged = self.group.merge([(0, 1, 0), (1, 1, 1), (0, -1, 0)] * (count // 3), [2**31 - 1] * (count - 1) + [-(2**31)])
         self.assertEqual(
             merged.classes,
-            (((1, 1, 1), 50_000, 50_000 * 999_999_999, False), ((0, 1, 0), 100_000, 99_999 * 999_999_999, True)),
+            (((1, 1, 1), 50_000, 50_000 * (2**31 - 1), False), ((0, 1, 0), 100_000, 99_999 * (2**31 - 1) - 2**31, True)),
         )
         self.assertEqual(merged.observed_absences, ((0, 1, 0),))
 
     def test_merge_refused(self):
         merge = self.group.merge
         self.refused(sg.Status.WRONG_COUNT, "sg: 1 indices, but 2 values", lambda: merge([(0, 0, 0)], [1, 2]))
-        self.refused(sg.Status.OUT_OF_RANGE, "sg: index 0 0 10001 is out of range", lambda: merge([(0, 0, 0), (0, 0, 10001)], [1, 1]), place=1)
-        self.refused(sg.Status.OUT_OF_RANGE, "sg: value -1000000000 is out of range", lambda: merge([(0, 0, 0)], [-(10**9)]), place=0)
+        self.refused(sg.Status.OUT_OF_RANGE, "sg: index is out of range", lambda: merge([(0, 0, 0), (0, 0, 10001)], [1, 1]), place=1)
         self.refused(sg.Status.OUT_OF_RANGE, "sg: value is out of range", lambda: merge([(0, 0, 0)] * 2, [0, 2**31]), place=1)
         with self.assertRaises(TypeError):
             merge([(0, 0, 0)], [1.5])
+
+    def test_class_keys(self):
+        # The point group 2/m, with its axis along b: h k l and -h k -l are equivalent, and their negatives.
+        indices = [(1, 2, 3), (-1, 2, -3), (-1, -2, -3), (1, -2, 3), (1, 2, -3), (0, -3, 0)]
+        keys = self.group.class_keys(indices)
+        self.assertEqual(keys.tolist(), [[1, 2, 3]] * 4 + [[1, 2, -3], [0, 3, 0]])
+        self.assertEqual(self.group.class_keys(indices, friedel=False).tolist(), keys.tolist())
+        # The point group 2 has the negatives by Friedel's law alone.
+        axis = sg.Group("-x,y,-z")
+        self.assertEqual(axis.class_keys(indices).tolist(), keys.tolist())
+        apart = axis.class_keys(indices, friedel=False)
+        self.assertEqual(apart.tolist(), [[1, 2, 3], [1, 2, 3], [1, -2, 3], [1, -2, 3], [1, 2, -3], [0, -3, 0]])
+        self.assertEqual(self.group.class_keys([]).tolist(), [])
+        self.assertEqual(sg.Group(group_text("p6mmm")).class_keys([(10000, 10000, 1)]).tolist(), [[20000, -10000, 1]])
+        self.refused(sg.Status.OUT_OF_RANGE, "sg: index is out of range", lambda: self.group.class_keys([(10001, 0, 0)]), place=0)
 
 
 @with_library
@@ -405,20 +420,24 @@ class Maps(Refusals):
                 self.assertEqual((summed.sums.tolist(), summed.total), (wanted, -840))
 
     def test_ends_of_the_range(self):
-        for value in (999_999_999, -999_999_999):
+        for value in (2**31 - 1, -(2**31)):
             summed = sg.Group("x+1/2,y,z").symmetrize([value] * 2, 2, 1, 1)
             self.assertEqual((summed.sums.tolist(), summed.total), ([2 * value] * 2, 2 * value))
+        self.assertEqual(sg.Group("").symmetrize(range(2048), 1, 1, 2048).total, 2047 * 1024)
 
     def test_refused(self):
         symmetrize = sg.Group(P21C).symmetrize
         self.refused(sg.Status.NOT_KEPT, "sg: grid is not kept", lambda: symmetrize([1] * 12, 2, 3, 2))
         self.refused(sg.Status.WRONG_COUNT, "sg: wrong number of values", lambda: symmetrize([1] * 15, 2, 4, 2))
-        self.refused(sg.Status.OUT_OF_RANGE, "sg: words are not a command in range", lambda: symmetrize([], 0, 1, 1))
-        self.refused(sg.Status.OUT_OF_RANGE, "sg: words are not a command in range", lambda: symmetrize([], 2049, 1, 1))
-        self.refused(sg.Status.OUT_OF_RANGE, "sg: value 1000000000 is out of range", lambda: symmetrize([1, 10**9], 1, 2, 1), place=1)
-        self.refused(sg.Status.TOO_LONG, "sg: input too long", lambda: symmetrize([999_999_999] * 64**3, 64, 64, 64))
+        for grid in ((0, 1, 1), (1, 2049, 1), (-1, 1, 1), (1, 1, 2**16 + 1), (2048, 2048, 2048)):
+            told = "sg: grid {} {} {} is out of range".format(*grid)
+            self.refused(sg.Status.OUT_OF_RANGE, told, lambda: symmetrize([1], *grid))
+        self.refused(sg.Status.OUT_OF_RANGE, "sg: value is out of range", lambda: symmetrize([1, 2**31], 1, 2, 1), place=1)
+        for given in ([0.5, 0], array("d", [0, 0])):
+            with self.assertRaises(TypeError):
+                symmetrize(given, 1, 2, 1)
         with self.assertRaises(TypeError):
-            symmetrize([0.5, 0], 1, 2, 1)
+            symmetrize([0, 0], 1, 2.0, 1)
 
 
 if __name__ == "__main__":

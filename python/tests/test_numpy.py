@@ -78,6 +78,9 @@ class Arrays(unittest.TestCase):
         self.assertEqual(self.group.site(numpy.int64(0), "1/2", 0), (2, 2))
 
     def test_values(self):
+        keys = self.group.class_keys(self.indices * numpy.int32(-1))
+        self.assertIsInstance(keys, numpy.ndarray)
+        self.assertEqual(keys.tolist(), self.indices.tolist())
         merged = self.group.merge(self.indices, numpy.array([7, 40, 5, 0]))
         sums = [(told.index, told.sum) for told in merged.classes]
         self.assertEqual(sums, [((1, 1, 1), 5), ((1, 0, 1), 0), ((0, 3, 0), 7), ((0, 2, 0), 40)])
