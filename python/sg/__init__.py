@@ -14,8 +14,8 @@ r"""The space-group engine sg, as a package over its library.
     3 2 0,0,1/2
 
 Many questions at once take arrays of anything that gives a buffer, as numpy's do, and answer with arrays (`Group.reflections`,
-`class_keys`, `merge`, `sites`, `fits`, `symmetrize`). `Group.classes`, `expand`, `basis`, `recell`, `report` and the forms of `wyckoff`
-ask for the text of a command, and read it exactly.
+`class_keys`, `merge`, `sites`, `fits`, `symmetrize`). `Group.classes`, `expand`, `basis`, `recell`, `report` and the forms of
+`wyckoff` ask for the text of a command, and read it exactly.
 
 Coordinates are exact; `sg.coordinate` reads those of files. Where there is no answer, an `sg.Error` tells its status and its text.
 
