@@ -95,9 +95,11 @@ CALLS = list(worked_calls())
 
 class WorkedExamples(unittest.TestCase):
     def test_all_are_read(self):
-        lines = [line for name in (DATA.parent / "args").read_text().split() for line in (DATA / name).read_text().split("\n")]
-        words = sum(line.startswith("$ sg") for line in lines)
-        self.assertLessEqual(words, len(CALLS))
+        named = (DATA.parent / "args").read_text().split()
+        self.assertEqual(sorted(named), sorted(path.name for path in DATA.glob("*.txt")))
+        asked = sum(len(re.findall(r"^\$ sg", (DATA / name).read_text(), re.MULTILINE)) for name in named)
+        self.assertLess(0, asked)
+        self.assertLessEqual(asked, len(CALLS))
 
     def test_module(self):
         for call in CALLS:

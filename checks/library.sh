@@ -26,3 +26,4 @@ cc -std=c99 $warnings -o "$made/shown" $(pkg-config --cflags sg) "$made/shown.c"
 [ "$("$made/shown")" = "$(printf '2 equivalent, absent\n2 equivalent, present\n4 equivalent, present')" ]
 
 SG_PROGRAM=$made/static SG_LIBRARY=$folder/lib/libsg.so PYTHONPATH=$folder/python python3 checks/library.py
+bash checks/python.sh "$folder"
