@@ -13,6 +13,7 @@
 
 mod fixing;
 mod growth;
+mod holding;
 mod keys;
 mod laws;
 pub mod numbers;
