@@ -11,6 +11,7 @@ none_and_shifts list = None ∷ map (λ (x : Placed). Some x.shift) list
 abbrev pub filed_shifts : List Placed → List ℕ → List (Option Offset)
 filed_shifts list places = map (λ n. slice_index_or (none_and_shifts list) n None) places
 
+-- each number leads into the list or means none, and that of each element is one more than its place
 pub record AreFiled (list : List Placed) (places : List ℕ) : Type 0 where
   pub within : (p : ℕ) → slice_index_or places p 0 ≤ length list
   pub filed : (i : ℕ) (x : Placed) → slice_get list i ≡ Some x → slice_index_or places x.place 0 ≡ i + 1
