@@ -1,6 +1,6 @@
 #!/usr/bin/env bash
-# The Wyckoff positions of settings.txt, beside this file, against GAP, which finds those of each setting from its operators: by hand,
-# never part of the gate. Needs Debian's gap-core and gap-cryst, and takes two minutes.
+# The Wyckoff positions of settings.txt, beside this file, against GAP, which finds those of each setting from its operators: by
+# hand, never part of the gate. Needs Debian's gap-core and gap-cryst, and takes two minutes.
 #
 #     bash checks/tables/gap.sh
 #
