@@ -1,6 +1,6 @@
 #!/usr/bin/env bash
-# The Wyckoff positions of settings.txt, beside this file, against GAP, which finds those of each setting from its operators: by hand,
-# never part of the gate. Needs Debian's gap-core and gap-cryst, and takes a quarter of an hour.
+# The Wyckoff positions of settings.txt, beside this file, against GAP, which finds those of each setting from its operators: by
+# hand, never part of the gate. Needs Debian's gap-core and gap-cryst, and takes two minutes.
 #
 #     bash checks/tables/gap.sh
 #
@@ -48,10 +48,25 @@ SetInfoLevel(InfoWarning, 0);
 if LoadPackage("cryst") <> true then Print("gap: the package cryst is missing\n"); QuitGap(1); fi;
 passed := 0;; failed := 0;;
 translations := List([1 .. 3], function(i) local m; m := IdentityMat(4); m[4][i] := 1; return m; end);;
+# Of each matrix of the point group one operator, and of these how many leave each point of a position modulo the lattice.
+Operators := function(group)
+    return List(PointGroup(group), matrix -> PreImagesRepresentative(PointHomomorphism(group), matrix));
+end;;
+SiteOrder := function(operators, lattice, position)
+    local point, directions;
+    point := WyckoffTranslation(position); directions := WyckoffBasis(position);
+    return Number(operators, function(operator)
+        local matrix;
+        matrix := operator{[1 .. 3]}{[1 .. 3]};
+        return ForAll(directions, v -> v * matrix = v) and
+            ForAll((point * matrix + operator[4]{[1 .. 3]} - point) / lattice, IsInt);
+    end);
+end;;
 Ask := function(name, matrices, orders)
-    local group, found;
+    local group, operators, lattice, found;
     group := AffineCrystGroupOnRight(Concatenation(matrices, translations));
-    found := SortedList(List(WyckoffPositions(group), position -> Size(PointGroup(group)) / Length(WyckoffOrbit(position))));
+    operators := Operators(group); lattice := TranslationBasis(group);
+    found := SortedList(List(WyckoffPositions(group), position -> SiteOrder(operators, lattice, position)));
     if found = SortedList(orders) then passed := passed + 1;
     else failed := failed + 1; Print("failed: ", name, ": ", found, "\n");
     fi;
@@ -63,4 +78,4 @@ Print("gap: ", passed, " passed, ", failed, " failed\n");
 if failed = 0 and passed > 0 then QuitGap(0); fi;
 QuitGap(1);
 END_OF_GAP
-} | gap -q
+} | gap -q --quitonbreak
