@@ -26,8 +26,8 @@ def _read() -> bytes:
 
 
 def _answer(words: Sequence[str]) -> str:
-    """What the command prints. Words that are no command, and `sample`, leave the input unread: the line that is no triplet, which is
-    asked first, tells the others from them."""
+    """What the command prints. Words that are no command, and `sample`, leave the input unread: the line that is no triplet, which
+    is asked first, tells the others from them."""
     try:
         return answer(words, "no triplet")
     except Error as fault:

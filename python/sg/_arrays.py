@@ -1,4 +1,5 @@
-"""Arrays of indices, points and values: from buffers without a copy where their numbers are those of the library, else from rows."""
+"""Arrays of indices, points and values: from buffers without a copy where their numbers are those of the library, else from
+rows."""
 
 from __future__ import annotations
 

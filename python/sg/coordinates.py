@@ -21,9 +21,10 @@ _NUMBER = re.compile(r"\s*([+-]?)(?:(\d+/0*[1-9]\d*)|(\d+\.?\d*|\.\d+)(?:\((\d+)
 
 
 class Within(enum.Enum):
-    """How far from a text of a file the fraction may lie that it stands for. LAST_DIGIT: it has this text with as many digits, where
-    it is rounded, half a unit being enough, or where it is cut off. UNCERTAINTY: it is at most the standard uncertainty away that
-    stands behind the text in parentheses, in units of the last digit; where none stands there, it is the number that is written."""
+    """How far from a text of a file the fraction may lie that it stands for. LAST_DIGIT: it has this text with as many digits,
+    where it is rounded, half a unit being enough, or where it is cut off. UNCERTAINTY: it is at most the standard uncertainty away
+    that stands behind the text in parentheses, in units of the last digit; where none stands there, it is the number that is
+    written."""
 
     LAST_DIGIT = "last digit"
     UNCERTAINTY = "uncertainty"
@@ -36,12 +37,12 @@ UNCERTAINTY = Within.UNCERTAINTY
 def coordinate(text: str, within: Union[Within, Coordinate, None] = None, parts: int = 24) -> Fraction:
     """The number of a text from a file, such as `0.3333`, `1/3` or `0.1234(2)`, in parts of a cell.
 
-    Without `within` it is the number as it is written: 0.3333 is 3333/10000, and no point of a threefold axis. A standard uncertainty
-    in parentheses changes nothing.
+    Without `within` it is the number as it is written: 0.3333 is 3333/10000, and no point of a threefold axis. A standard
+    uncertainty in parentheses changes nothing.
 
-    With `within` it is a whole number of `parts`, by default of twenty-fourths of a cell: the number as it is written, where that is
-    one; else the only one that lies within LAST_DIGIT, UNCERTAINTY or a distance that is told, in parts of a cell. Where none lies
-    there, or several do, an Error with status OUT_OF_RANGE is raised, as it is where the text is no number.
+    With `within` it is a whole number of `parts`, by default of twenty-fourths of a cell: the number as it is written, where that
+    is one; else the only one that lies within LAST_DIGIT, UNCERTAINTY or a distance that is told, in parts of a cell. Where none
+    lies there, or several do, an Error with status OUT_OF_RANGE is raised, as it is where the text is no number.
 
     >>> coordinate("0.3333"), coordinate("0.3333", within=LAST_DIGIT)
     (Fraction(3333, 10000), Fraction(1, 3))
@@ -91,7 +92,7 @@ def exact(value: Coordinate) -> Fraction:
         return Fraction(int(value))
     if isinstance(value, Rational):
         return Fraction(value)
-    raise TypeError(f"{value!r} is no exact coordinate: tell a whole number, a Fraction or a text (sg.coordinate reads texts of files)")
+    raise TypeError(f"{value!r} is no exact coordinate: tell a whole number, a Fraction or a text; sg.coordinate reads files' texts")
 
 
 def exact_in_range(value: Coordinate, place: Optional[int] = None) -> Fraction:

@@ -46,13 +46,13 @@ _TRANSLATIONS = tuple(Fraction(part, PARTS) for part in range(PARTS))
 
 
 class Group:
-    """The group that operators generate modulo the translations of the lattice, from an input of one triplet a line, or from a list of
-    triplets or of operators. An Error is raised where a line is no triplet (UNREADABLE) or has no inverse in whole numbers
+    """The group that operators generate modulo the translations of the lattice, from an input of one triplet a line, or from a list
+    of triplets or of operators. An Error is raised where a line is no triplet (UNREADABLE) or has no inverse in whole numbers
     (NOT_UNIMODULAR), and where the operators generate more than 192 or one with an entry beyond 2 (UNCLOSED).
 
-    Two groups are equal where they have the same operators, whatever generated them. A group is pickled and copied by its operators. It may
-    be used in any thread; a lock lets one call at a time ask it. `close`, or the end of a `with`, frees its memory; then it answers
-    with an Error (EMPTY), but its operators are still there.
+    Two groups are equal where they have the same operators, whatever generated them. A group is pickled and copied by its
+    operators. It may be used in any thread; a lock lets one call at a time ask it. `close`, or the end of a `with`, frees its
+    memory; then it answers with an Error (EMPTY), but its operators are still there.
     """
 
     input: bytes
@@ -87,6 +87,7 @@ class Group:
 
     @property
     def closed(self) -> bool:
+        """Whether its memory was freed."""
         return not self._handle.held
 
     def __enter__(self) -> Group:
@@ -140,7 +141,7 @@ class Group:
         return f"<sg.Group of {self.order}: {first}{'; ...' if 4 < self.order else ''}>"
 
     def __reduce__(self) -> Tuple[Any, ...]:
-        return Group, (self.triplets(),)
+        return type(self), (self.triplets(),)
 
     def triplets(self) -> Tuple[str, ...]:
         """The operators as triplets, in the same order."""
@@ -192,16 +193,16 @@ class Group:
     # ---- points
 
     def site(self, x: Coordinate, y: Coordinate, z: Coordinate) -> Site:
-        """The site symmetry of the point with these coordinates, in parts of a cell, which are exact: whole numbers, fractions, or their
-        texts. Numerators are at most 1,000,000,000 in size and denominators at most 1,000,000; otherwise OUT_OF_RANGE."""
+        """The site symmetry of the point with these coordinates, in parts of a cell, which are exact: whole numbers, fractions, or
+        their texts. Numerators are at most 1,000,000,000 in size and denominators at most 1,000,000; otherwise OUT_OF_RANGE."""
         parts = (ctypes.c_int64 * 6)(*(part for value in (x, y, z) for part in exact_in_range(value).as_integer_ratio()))
         counts = SiteCounts()
         _check(self._call("sg_site", parts, ctypes.byref(counts)), f"point {x} {y} {z}")
         return Site(counts.order, counts.multiplicity)
 
     def sites(self, points: Any) -> Sites:
-        """The same of many points at once: rows of three coordinates, or a buffer of int64 of shape (n, 3, 2), with a numerator and a
-        denominator for each, which is not copied where it may be written to."""
+        """The same of many points at once: rows of three coordinates, or a buffer of int64 of shape (n, 3, 2), with a numerator and
+        a denominator for each, which is not copied where it may be written to."""
         asked = _arrays.points(points)
         counts, memory = _arrays.answers(SiteCounts, asked.count)
         self._ask("point", "sg_sites", asked.c, asked.count, counts, asked.count)
@@ -222,10 +223,12 @@ class Group:
 
     def fit(self, x: Coordinate, y: Coordinate, z: Coordinate) -> Row:
         """The row of `wyckoff` that a point fits. The coordinates are those of `site`."""
-        return self.wyckoff()[self.fits([(x, y, z)])[0]]
+        point = [exact_in_range(value) for value in (x, y, z)]
+        return self.wyckoff()[self.fits([point])[0]]
 
     def fits(self, points: Any) -> Any:
-        """The places in `wyckoff` of the rows that many points fit. The points are those of `sites`, and the places an array likewise."""
+        """The places in `wyckoff` of the rows that many points fit. The points are those of `sites`, and the places an array
+        likewise."""
         asked = _arrays.points(points)
         places, memory = _arrays.answers(ctypes.c_size_t, asked.count)
         self._ask("point", "sg_fit", asked.c, asked.count, places, asked.count)
@@ -250,8 +253,8 @@ class Group:
     # ---- other coordinates
 
     def basis(self, change: Union[str, Operator]) -> Group:
-        """The group in the basis and with the origin of x' = W x + t, where the change is (W, t), a triplet. W has an inverse in whole
-        numbers (OUT_OF_RANGE), and no changed operator an entry beyond 2 (NOT_KEPT)."""
+        """The group in the basis and with the origin of x' = W x + t, where the change is (W, t), a triplet. W has an inverse in
+        whole numbers (OUT_OF_RANGE), and no changed operator an entry beyond 2 (NOT_KEPT)."""
         return Group(_texts.basis(self._open_text(), str(change)))
 
     def recell(self, over: int, change: Union[str, Operator]) -> Group:
@@ -284,8 +287,9 @@ def _operator(parts: OperatorParts) -> Operator:
 
 def _operator_type(operator: Operator, parts: TypeParts) -> OperatorType:
     kind = str(parts.order) if parts.proper else "m" if parts.order == 2 else f"-{parts.order}"
+    intrinsic = tuple(Fraction(part, parts.denominator) for part in parts.intrinsic)
     axis = tuple(parts.axis)
-    return OperatorType(operator, kind, tuple(Fraction(part, parts.denominator) for part in parts.intrinsic), axis if any(axis) else None)
+    return OperatorType(operator, kind, intrinsic, axis if any(axis) else None)
 
 
 def _row(parts: RowParts, order: int, form: str) -> Row:

@@ -28,7 +28,8 @@ def _component(row: Sequence[Coordinate], constant: Fraction) -> str:
 
 
 class Operator(NamedTuple):
-    """x -> W x + t: the matrix, row by row, and the translation, in parts of a cell from 0 to below 1. As a text it is its triplet."""
+    """x -> W x + t: the matrix, row by row, and the translation, in parts of a cell from 0 to below 1. As a text it is its
+    triplet."""
 
     w: Tuple[Tuple[int, int, int], ...]
     t: Point
@@ -44,9 +45,9 @@ class Operator(NamedTuple):
 
 
 class OperatorType(NamedTuple):
-    """What an operator is (International Tables A 1.2.2.4): its kind, as `2`, `m` or `-3`; its intrinsic part, the translation along
-    the axis or the plane, in parts of a cell and not reduced modulo a cell; and the direction of its axis, where it has one. As a text it
-    is a line of `sg types`."""
+    """What an operator is (International Tables A 1.2.2.4): its kind, as `2`, `m` or `-3`; its intrinsic part, the translation
+    along the axis or the plane, in parts of a cell and not reduced modulo a cell; and the direction of its axis, where it has one.
+    As a text it is a line of `sg types`."""
 
     operator: Operator
     kind: str
@@ -59,8 +60,8 @@ class OperatorType(NamedTuple):
 
 
 class Row(NamedTuple):
-    """A row of the table of Wyckoff positions: how many points an orbit has in a cell; the matrix and the shift of its map, onto which
-    some image of each of its points falls; and its parameter form, in which a letter is a coordinate that may be chosen."""
+    """A row of the table of Wyckoff positions: how many points an orbit has in a cell; the matrix and the shift of its map, onto
+    which some image of each of its points falls; and its parameter form, in which a letter is a coordinate that may be chosen."""
 
     multiplicity: int
     w: Tuple[Tuple[Fraction, Fraction, Fraction], ...]
@@ -99,9 +100,9 @@ class Site(NamedTuple):
 
 
 class Reflections:
-    """The answers of many reflections as parallel arrays: `indices` of shape (n, 3), and `class_size`, `fixers`, `mark` and `phase`,
-    as in Reflection. They are memoryviews, which numpy.asarray takes without a copy, or numpy's arrays, where the indices were one.
-    A place gives a Reflection."""
+    """The answers of many reflections as parallel arrays: `indices` of shape (n, 3), and `class_size`, `fixers`, `mark` and
+    `phase`, as in Reflection. They are memoryviews, which numpy.asarray takes without a copy, or numpy's arrays, where the indices
+    were one. A place gives a Reflection."""
 
     def __init__(self, indices: Any, class_size: Any, fixers: Any, mark: Any, phase: Any) -> None:
         self.indices = indices
@@ -109,6 +110,9 @@ class Reflections:
         self.fixers = fixers
         self.mark = mark
         self.phase = phase
+
+    def __repr__(self) -> str:
+        return f"<sg.Reflections of {len(self)}>"
 
     def __len__(self) -> int:
         return len(self.mark)
@@ -127,6 +131,9 @@ class Sites:
     def __init__(self, order: Any, multiplicity: Any) -> None:
         self.order = order
         self.multiplicity = multiplicity
+
+    def __repr__(self) -> str:
+        return f"<sg.Sites of {len(self)}>"
 
     def __len__(self) -> int:
         return len(self.order)
@@ -166,8 +173,9 @@ class Orbit(NamedTuple):
 
 
 class SummedMap(NamedTuple):
-    """For each grid point, in the order of the map, the sum of the map over the points of its orbit in a cell: an array of 64 bits, of
-    shape (a, b, c) where it is numpy's. And the sum of the whole map. The sums of a map of ones are how many points the orbits have."""
+    """For each grid point, in the order of the map, the sum of the map over the points of its orbit in a cell: an array of 64 bits,
+    of shape (a, b, c) where it is numpy's. And the sum of the whole map. The sums of a map of ones are how many points the orbits
+    have."""
 
     sums: Any
     total: int

@@ -110,7 +110,8 @@ class Meant(unittest.TestCase):
 
 class Exact(unittest.TestCase):
     def test_values(self):
-        self.assertEqual([exact(value) for value in (3, Fraction(1, 7), "0.25", "-7/2", " +1 ")], [3, Fraction(1, 7), Fraction(1, 4), Fraction(-7, 2), 1])
+        found = [exact(value) for value in (3, Fraction(1, 7), "0.25", "-7/2", " +1 ")]
+        self.assertEqual(found, [3, Fraction(1, 7), Fraction(1, 4), Fraction(-7, 2), 1])
 
     def test_floats_and_uncertainties_are_refused(self):
         for value in (0.25, None, 1j):

@@ -69,7 +69,13 @@ class Collection(Refusals):
 
     def test_repr(self):
         self.assertEqual(repr(sg.Group("-x,-y,-z")), "<sg.Group of 2: x,y,z; -x,-y,-z>")
+        self.assertEqual(repr(self.group.reflections([(0, 0, 0)])), "<sg.Reflections of 1>")
+        self.assertEqual(repr(self.group.sites([])), "<sg.Sites of 0>")
         self.assertTrue(repr(sg.Group("-y,x,z\nz,x,y")).endswith("; ...>"))
+
+    def test_pictures(self):
+        self.assertTrue(self.group._repr_svg_().startswith("<svg"))
+        self.assertIn("<svg", self.group._repr_html_())
 
     def test_copies(self):
         for made in (pickle.loads(pickle.dumps(self.group)), copy.copy(self.group), copy.deepcopy(self.group)):
@@ -356,12 +362,17 @@ class Points(Refusals):
     def test_refused(self):
         far = Fraction(1, 10**6 + 1)
         self.refused(sg.Status.OUT_OF_RANGE, f"sg: coordinate {far} is out of range", lambda: self.group.site(0, far, 0))
-        self.refused(sg.Status.OUT_OF_RANGE, "sg: coordinate 1000000001 is out of range", lambda: self.group.fit(10**9 + 1, 0, 0), place=0)
+        told = "sg: coordinate 1000000001 is out of range"
+        self.refused(sg.Status.OUT_OF_RANGE, told, lambda: self.group.fit(10**9 + 1, 0, 0))
         given = [(0, 0, 0), (0, 2**70, 0)]
         for ask in (self.group.sites, self.group.fits):
             self.refused(sg.Status.OUT_OF_RANGE, f"sg: coordinate {2**70} is out of range", lambda: ask(given), place=1)
         self.refused(sg.Status.OUT_OF_RANGE, "sg: 'x' is no coordinate", lambda: self.group.site("x", 0, 0))
-        for ask in (lambda: self.group.site(0.5, 0, 0), lambda: self.group.fits([(0.5, 0, 0)]), lambda: self.group.sites(array("d", [0]))):
+        for ask in (
+            lambda: self.group.site(0.5, 0, 0),
+            lambda: self.group.fits([(0.5, 0, 0)]),
+            lambda: self.group.sites(array("d", [0])),
+        ):
             with self.assertRaises(TypeError):
                 ask()
 
