@@ -3,6 +3,7 @@
 from __future__ import annotations
 
 import copy
+import ctypes
 import pickle
 import threading
 import unittest
@@ -10,6 +11,7 @@ from array import array
 from fractions import Fraction
 
 import sg
+from sg import _arrays
 from inputs import P21C, P31, expected, group_text, with_library
 
 HALF = Fraction(1, 2)
@@ -87,6 +89,7 @@ class Collection(Refusals):
     def test_closing(self):
         with self.group as group:
             self.assertFalse(group.closed)
+            self.assertEqual(len(group.wyckoff()), 5)
         self.assertTrue(group.closed)
         group.close()
         group.close()
@@ -156,7 +159,7 @@ class Answers(Refusals):
 
     def test_refused(self):
         refused = "sg: words are not a command in range"
-        for words in ("", "OPS", "fit 0 0", ["fit 0 0 0"], ["ops\n"]):
+        for words in ("", "OPS", "fit 0 0", ["fit 0 0 0"], ["ops\n"], ["fit\n0", "0", "0"]):
             with self.subTest(words):
                 self.refused(sg.Status.OUT_OF_RANGE, refused, lambda: sg.answer(words, P21C))
         self.refused(sg.Status.NOT_TEXT, "sg: words are no text", lambda: sg.answer(["\udcff"]))
@@ -240,6 +243,8 @@ class Reflections(Refusals):
         rows = memoryview(flat).cast("B").cast("i", (2, 3))
         self.assertEqual(self.group.reflections(rows).mark.tolist(), [2, 1])
         self.assertIs(self.group.reflections(flat).indices.obj, flat)
+        self.assertEqual(ctypes.addressof(_arrays.indices(flat).c), flat.buffer_info()[0])
+        self.assertEqual(self.group.reflections(memoryview(flat)[::-1]).mark.tolist(), [1, 2])
         self.assertEqual(self.group.reflections(rows.toreadonly()).mark.tolist(), [2, 1])
         self.assertEqual(self.group.reflections(array("q", flat)).mark.tolist(), [2, 1])
         self.assertEqual(self.group.reflections(array("b", flat)).mark.tolist(), [2, 1])
@@ -258,7 +263,7 @@ class Reflections(Refusals):
         for given in ([(0, 0)], [(0, 0, 0, 0)], array("i", [0, 0])):
             with self.subTest(given), self.assertRaises(ValueError):
                 self.group.reflections(given)
-        for given in ([(0, 0, 0.5)], [(0, 0, 1.0)], array("d", [0, 0, 1]), [("0", "0", "1")], b"\0" * 12, 7):
+        for given in ([(0, 0, 0.5)], [(0, 0, 1.0)], array("d", [0, 0, 1]), array("f", [0, 0, 1]), [("0", "0", "1")], b"\0" * 12, 7):
             with self.subTest(given), self.assertRaises(TypeError):
                 self.group.reflections(given)
 
@@ -271,7 +276,10 @@ class Reflections(Refusals):
         )
         self.assertEqual([m.mark for m in found], [1, 1, 1, 2, 1, 2, 1, 2, 2, 1])
         self.assertEqual(found.class_size.tolist(), [4, 4, 4, 2, 2, 2, 4, 2, 2, 1])
-        self.assertEqual(len(sg.Group("").classes(1, 0, 0, friedel=False)), 3)
+        # The worked example of anomalous scattering.
+        apart = sg.Group("").classes(1, 0, 0, friedel=False)
+        self.assertEqual(apart.indices.tolist(), [[1, 0, 0], [0, 0, 0], [-1, 0, 0]])
+        self.assertEqual(list(apart), [(1, 1, sg.Mark.FREE, 0)] * 3)
         for box in ((201, 0, 0), (-1, 0, 0), (64, 64, 64)):
             self.refused(sg.Status.OUT_OF_RANGE, "sg: words are not a command in range", lambda: self.group.classes(*box))
 
@@ -284,6 +292,10 @@ class Reflections(Refusals):
             merged.classes, (((2, -1, 0), 1, 4, False), ((1, 0, 0), 3, 14, False), ((0, 0, 1), 2, 0, True))
         )
         self.assertEqual(merged.observed_absences, ((0, 0, 1),))
+        # An absence that was observed, and one that was not.
+        absent = self.group.merge([(0, 1, 0), (0, -1, 0), (0, 2, 0), (1, 0, 1)], [7, -2, 40, 0])
+        self.assertEqual(absent.classes, (((1, 0, 1), 1, 0, True), ((0, 2, 0), 1, 40, False), ((0, 1, 0), 2, 5, True)))
+        self.assertEqual(absent.observed_absences, ((0, 1, 0),))
         apart = group.merge(iter(indices), array("i", values), friedel=False)
         self.assertEqual([told.index for told in apart.classes], [(2, -1, 0), (1, 0, 0), (1, -1, 0), (0, 0, 1), (0, 0, -1)])
         self.assertEqual(apart.observed_absences, ((0, 0, 1), (0, 0, -1)))
@@ -441,7 +453,7 @@ class Maps(Refusals):
         symmetrize = sg.Group(P21C).symmetrize
         self.refused(sg.Status.NOT_KEPT, "sg: grid is not kept", lambda: symmetrize([1] * 12, 2, 3, 2))
         self.refused(sg.Status.WRONG_COUNT, "sg: wrong number of values", lambda: symmetrize([1] * 15, 2, 4, 2))
-        for grid in ((0, 1, 1), (1, 2049, 1), (-1, 1, 1), (1, 1, 2**16 + 1), (2048, 2048, 2048)):
+        for grid in ((0, 1, 1), (1, 2049, 1), (-1, 1, 1), (1, 1 - 2**16, 1), (1, 1, 2**16 + 1), (2048, 2048, 2048)):
             told = "sg: grid {} {} {} is out of range".format(*grid)
             self.refused(sg.Status.OUT_OF_RANGE, told, lambda: symmetrize([1], *grid))
         self.refused(sg.Status.OUT_OF_RANGE, "sg: value is out of range", lambda: symmetrize([1, 2**31], 1, 2, 1), place=1)

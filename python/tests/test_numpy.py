@@ -52,7 +52,7 @@ class Arrays(unittest.TestCase):
         self.assertEqual(self.group.fits(numpy.zeros((0, 3), dtype=int)).tolist(), [])
 
     def test_refused(self):
-        for number in (10001, 2**31, -(2**40)):
+        for number in (10001, 2**31, 2**32, -(2**40)):
             given = numpy.array([(0, 0, 0), (0, number, 0)], dtype=numpy.int64)
             with self.subTest(number), self.assertRaises(sg.Error) as caught:
                 self.group.reflections(given)
