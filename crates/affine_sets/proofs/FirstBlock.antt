@@ -1,8 +1,7 @@
 -- The elements of a group that is to grow, by their places: how they are listed and held, and that they are the first block.
-use Rattle.std.proofs.Common.{◌≡◌, ◌≢◌, ◌++◌, ◌∷◌, [], ◌+◌, ◌*◌, ◌<◌, ◌≤◌, ◌↔◌, ℕ, Option, Some, None, List, All, AllPairs, Contains, length, map, take, set, get_or, replicate, slice_get, slice_index_or, inl, inr, ⊎_elim, le_trans, ap, ap₂, sym, ◌∙◌, subst, arith}
-use Rattle.std.proofs.lemmas.Bool.{cases_lt, cases_eq}
-use Rattle.std.proofs.lemmas.Option.{none-some, same_Some, slice_get-get_or, slice_get_within, get_or_from_slice_get}
-use Rattle.std.proofs.lemmas.List.{take_more, take_all, map-append, length-map, length-take-le, get_or-map, get_or-take, get_or-set_same, get_or-set_other, get_or-replicate, length-replicate, get_or_past}
+use Rattle.std.proofs.Common.{◌≡◌, ◌≢◌, ◌++◌, ◌∷◌, [], ◌+◌, ◌*◌, ◌<◌, ◌≤◌, ◌↔◌, ℕ, Option, Some, None, List, All, AllPairs, Contains, length, map, take, get_or, slice_get, inl, inr, ⊎_elim, le_trans, ap, ap₂, sym, ◌∙◌, subst, arith}
+use Rattle.std.proofs.lemmas.Option.{slice_get-get_or, slice_get_within, get_or_from_slice_get}
+use Rattle.std.proofs.lemmas.List.{take_more, take_all, map-append, length-map, length-take-le, get_or-map, get_or-take}
 use Rattle.std.proofs.lemmas.List.Elements.{All-contains, All-nil, All-cons, All-head, All-tail, Contains-get_or, Contains-append_left, Contains-push, Contains-push_cases}
 use Rattle.finite_groups.proofs.Members as lists
 use Rattle.lattice_algebra.specs.Matrix.{Column}
@@ -18,16 +17,15 @@ use Rattle.affine_sets.specs.declared.growth.Placed.{Placed}
 use Rattle.affine_sets.specs.declared.numbers.Offset.{Offset}
 use Rattle.affine_sets.specs.Fields.{offset_in}
 use Rattle.affine_sets.specs.Subs.{IsSubList, AreShiftsWithin}
-use Rattle.affine_sets.specs.Growth.{placed_map, no_shift, Holds, HoldsMap, AreHeld, AreOld, IsGrowing}
+use Rattle.affine_sets.specs.Growth.{placed_map, no_shift, Holds, Puts, HoldsMap, AreHeld, AreOld, IsGrowing}
+use Rattle.affine_sets.proofs.Putting.{same_placed}
 use Rattle.affine_sets.proofs.PlacedMaps.{placed_shift, placed_once, identity_place, identity_placed}
 
 -- ---- the loop over the elements
 
-abbrev pub no_offset : Option Offset
-no_offset = None
-
-pub none_held : (n p : ℕ) (k : Offset) → Holds (replicate n no_offset) p k → ⊥
-none_held n p k h = none-some k (sym (⊎_elim (λ l. get_or-replicate n p no_offset no_offset l) (λ l. get_or_past (replicate n no_offset) p no_offset (omega (arith, l, length-replicate n no_offset))) (cases_lt p n)) ∙ h)
+no_shift_held : (held : Option Offset) → ((k : Offset) → held ≡ Some k → ⊥) → held ≡ None
+no_shift_held None h = λ _. None
+no_shift_held (Some k) h = absurd (h k (λ _. Some k))
 
 pub placed_next : (v : Placed → Map) (items : List Move) (old more : List Placed) (i : ℕ) (e d : Move) (x : Placed) → i < length items → e ≡ get_or items i d → more ≡ old ++ x ∷ [] → v x ≡ map_in e → map v old ≡ map map_in (take i items)
     → map v more ≡ map map_in (take (i + 1) items)
@@ -53,20 +51,21 @@ new_place members items old i e d x apart l q is was y c same =
     let there : get_or (map map_in items) i m ≡ v x = get_or-map map_in items i d m l ∙ ap map_in (sym q) ∙ sym is in
     apart c.0 i m j (omega (arith, l, length-map items map_in)) (ap (λ (f : Map). f.w) here ∙ ap (λ p. (get_or members p identity_operator).w) same ∙ sym (ap (λ (f : Map). f.w) there))
 
-pub held_next : (old more : List Placed) (held : List (Option Offset)) (x : Placed) → x.place < length held → more ≡ old ++ x ∷ [] → ((y : Placed) → Contains old y → y.place ≡ x.place → ⊥) → AreHeld old held → AreHeld more (set held x.place (Some x.shift))
-held_next old more held x l e new was p k = subst (λ list. Holds (set held x.place (Some x.shift)) p k ↔ Contains list (record { place = p; shift = k })) (sym e) (
-  (λ h. elim (cases_eq p x.place) [
-    | inl s ↦
-        let shift : x.shift ≡ k = same_Some x.shift k (sym (get_or-set_same held x.place (Some x.shift) None l) ∙ ap (λ j. slice_index_or (set held x.place (Some x.shift)) j None) (sym s) ∙ h) in
-        let y : x ≡ record { place = p; shift = k } = λ i. record { place = sym s i; shift = shift i } in
-        subst (Contains (old ++ x ∷ [])) y (Contains-push old x)
-    | inr s ↦ Contains-append_left old (x ∷ []) _ ((was p k).0 (sym (get_or-set_other held x.place p (Some x.shift) None s) ∙ h))
-  ]),
-  (λ c. ⊎_elim
-      (λ d. get_or-set_other held x.place p (Some x.shift) None (λ s. new _ d s) ∙ (was p k).1 d)
-      (λ y. ap (λ (z : Placed). slice_index_or (set held x.place (Some x.shift)) z.place None) (sym y) ∙ get_or-set_same held x.place (Some x.shift) None l ∙ ap (λ (z : Placed). Some z.shift) y)
-      (Contains-push_cases old x _ c)),
+pub held_next : (old more : List Placed) (held new : List (Option Offset)) (x : Placed) → more ≡ old ++ x ∷ [] → Puts held new x → AreHeld old held → AreHeld more new
+held_next old more held new x e puts was p k = subst (λ list. Holds new p k ↔ Contains list (record { place = p; shift = k })) (sym e) (
+  (λ h. ⊎_elim
+      (λ o. Contains-append_left old (x ∷ []) _ ((was p k).0 o))
+      (λ s. subst (Contains (old ++ x ∷ [])) (same_placed p k x s) (Contains-push old x))
+      ((puts p k).0 h)),
+  (λ c. (puts p k).1 (⊎_elim
+      (λ d. inl ((was p k).1 d))
+      (λ y. inr (ap (λ (z : Placed). z.place) (sym y), ap (λ (z : Placed). z.shift) (sym y)))
+      (Contains-push_cases old x _ c))),
 )
+
+-- nothing is held at a place at which none of these stands
+pub none_there : (old : List Placed) (held : List (Option Offset)) (x : Placed) → AreHeld old held → ((y : Placed) → Contains old y → y.place ≡ x.place → ⊥) → get_or held x.place None ≡ None
+none_there old held x are new = no_shift_held (get_or held x.place None) (λ k h. new (record { place = x.place; shift = k }) ((are x.place k).0 h) (λ _. x.place))
 
 -- ---- the first block
 

@@ -25,6 +25,7 @@ mod Examples
 mod GroupExamples
 mod StepExamples
 mod Placing
+mod Filing
 mod PlacedMaps
 mod HeldLists
 mod FirstBlock
@@ -34,3 +35,4 @@ mod Putting
 mod Products
 mod Leading
 mod OneKey
+mod ImagePoints

@@ -49,7 +49,7 @@ pub record IsPutting (members : List Operator) (old : List Placed) (before held 
   pub only : (p : ℕ) (k : Offset) → Holds held p k → Holds before p k ⊎ IsInBlock members old x (placed_map members (record { place = p; shift = k }))
   pub small : (p : ℕ) (k : Offset) → Holds held p k → (p < length members) × AreWithin MAX_SHIFT k.x k.y k.z
 
-same_placed : (p : ℕ) (k : Offset) (y : Placed) → (p ≡ y.place) × (k ≡ y.shift) → y ≡ record { place = p; shift = k }
+pub same_placed : (p : ℕ) (k : Offset) (y : Placed) → (p ≡ y.place) × (k ≡ y.shift) → y ≡ record { place = p; shift = k }
 same_placed p k y e = λ i. record { place = sym e.0 i; shift = sym e.1 i }
 
 -- a shift that is held now was held before or is that of y
@@ -119,18 +119,25 @@ extends_one items x j r e =
     let l = slice_get_within items j r e in
     slice_get_read (items ++ x ∷ []) (length (items ++ x ∷ [])) j r refl (omega (arith, length-append items (x ∷ []), l)) (sym (get_or_append_left items (x ∷ []) r j l ∙ get_or_from_slice_get items j r r e))
 
-near_one : (items : List Placed) (x : Placed) → ((j : ℕ) (r : Placed) → slice_get items j ≡ Some r → AreWithin ((j + 1) * 7000000) r.shift.x r.shift.y r.shift.z) → AreWithin ((length items + 1) * 7000000) x.shift.x x.shift.y x.shift.z
-    → (j : ℕ) (r : Placed) → slice_get (items ++ x ∷ []) j ≡ Some r → AreWithin ((j + 1) * 7000000) r.shift.x r.shift.y r.shift.z
-near_one items x near s j r e =
+-- what stands in a list with one more at its end
+pub pushed_cases : (items : List Placed) (x : Placed) (j : ℕ) (r : Placed) → slice_get (items ++ x ∷ []) j ≡ Some r → (slice_get items j ≡ Some r) ⊎ ((j ≡ length items) × (x ≡ r))
+pushed_cases items x j r e =
     let l = slice_get_within (items ++ x ∷ []) j r e in
     let at = get_or_from_slice_get (items ++ x ∷ []) j r r e in
     ⊎_elim
-    (λ c. near j r (slice_get_read items (length items) j r refl c (sym (sym (get_or_append_left items (x ∷ []) r j c) ∙ at))))
+    (λ c. inl (slice_get_read items (length items) j r refl c (sym (sym (get_or_append_left items (x ∷ []) r j c) ∙ at))))
     (λ c.
     let last : j ≡ length items = omega (arith, length-append items (x ∷ []), l, c) in
-    let same : x ≡ r = sym (get_or-append_seam items x [] r) ∙ ap (λ v. get_or (items ++ x ∷ []) v r) (sym last) ∙ at in
-    subst (λ v. AreWithin ((v + 1) * 7000000) r.shift.x r.shift.y r.shift.z) (sym last) (subst (λ (v : Placed). AreWithin ((length items + 1) * 7000000) v.shift.x v.shift.y v.shift.z) same s))
+    inr (last, sym (get_or-append_seam items x [] r) ∙ ap (λ v. get_or (items ++ x ∷ []) v r) (sym last) ∙ at))
     (cases_lt j (length items))
+
+near_one : (items : List Placed) (x : Placed) → ((j : ℕ) (r : Placed) → slice_get items j ≡ Some r → AreWithin ((j + 1) * 7000000) r.shift.x r.shift.y r.shift.z) → AreWithin ((length items + 1) * 7000000) x.shift.x x.shift.y x.shift.z
+    → (j : ℕ) (r : Placed) → slice_get (items ++ x ∷ []) j ≡ Some r → AreWithin ((j + 1) * 7000000) r.shift.x r.shift.y r.shift.z
+near_one items x near s j r e =
+    ⊎_elim
+    (λ c. near j r c)
+    (λ c. subst (λ v. AreWithin ((v + 1) * 7000000) r.shift.x r.shift.y r.shift.z) (sym c.0) (subst (λ (v : Placed). AreWithin ((length items + 1) * 7000000) v.shift.x v.shift.y v.shift.z) c.1 s))
+    (pushed_cases items x j r e)
 
 -- x stands at another place than each first
 pub other_place : (members : List Operator) (old firsts : List Placed) (before : List (Option Offset)) (x : Placed) → IsGrowing members old before firsts → get_or before x.place None ≡ None → (r : Placed) → Contains firsts r → r.place ≢ x.place

@@ -1,5 +1,5 @@
 -- The definitions on examples: what single steps keep while a group grows and while a key is looked for; nothing cites these.
-use Rattle.std.proofs.Common.{◌≡◌, ◌≢◌, ◌<◌, ◌+◌, ◌*◌, ◌/◌, ◌%◌, ◌⊎◌, ℕ, zero, suc, ℤ, pos, negsuc, ◌+ℤ◌, ◌*ℤ◌, Option, None, Some, Bool, true, false, List, [], ◌∷◌, length, inl, inr, ⊎_elim, Contains, ap, sym, ◌∙◌, subst, refl, arith}
+use Rattle.std.proofs.Common.{◌≡◌, ◌<◌, ◌*◌, ◌/◌, ◌%◌, ℕ, zero, suc, ℤ, pos, negsuc, ◌+ℤ◌, ◌*ℤ◌, Option, None, Some, Bool, true, false, List, [], ◌∷◌, length, inl, inr, ⊎_elim, Contains, ap, sym, ◌∙◌, subst, refl, arith}
 use Rattle.std.proofs.lemmas.Bool.{false≢true}
 use Rattle.std.proofs.lemmas.Int.{ints}
 use Rattle.std.proofs.lemmas.Option.{slice_get_within, same_Some}

@@ -2,11 +2,14 @@
 use Rattle.std.specs.Prelude.{◌≡◌, ◌↔◌, ◌≤◌, ◌+◌, ◌*◌, ◌^◌, ℕ, pos, List, length}
 use Rattle.lattice_algebra.specs.Operator.{Operator, AreWithin}
 use Rattle.lattice_algebra.specs.Map.{Map}
+use Rattle.lattice_algebra.specs.Matrix.{origin}
+use Rattle.lattice_algebra.specs.Point.{Point, IsPoint, ◌≈◌}
 use Rattle.exact_ops.specs.declared.TheConstants.{UNIT}
 use Rattle.affine_sets.specs.declared.TheConstants.{MAX_GROWN_SHIFT}
 use Rattle.space_groups.specs.Space.{IsElement, ScaledPoint, moved}
 use Rattle.space_groups.specs.Averages.{Block, IsMean, IsInImage, sum_of, block_of, block_times}
 use Rattle.group_closure.specs.declared.TheConstants.{MAX_OPERATORS}
+use Rattle.space_groups.specs.Rows.{row_point}
 use Rattle.space_groups.specs.Search.{IsSub, IsFull}
 use Rattle.affine_sets.specs.Subs.{AreShiftsWithin}
 
@@ -49,3 +52,9 @@ pub record IsOfFullGroup (members : List Operator) (a : Block) : Type 0 where
 -- an element carries the image of a onto that of b
 abbrev pub HaveConjugateImages : List Operator → Block → Block → Type 0
 HaveConjugateImages members a b = (g : Map) × IsElement UNIT members g × ((y : ScaledPoint) → IsInImage a y ↔ IsInImage b (moved g y))
+
+-- y is M z + t for some rational point z, where the average is x -> M x + t
+pub record IsMade (members : List Operator) (a : Block) (y : Point) : Type 0 where
+  pub from : Point
+  pub is_point : IsPoint from
+  pub equal : y ≈ row_point UNIT (length members) (record { m = a.m; t = a.t }) from origin

@@ -4,3 +4,4 @@ pub mod Fields
 pub mod Conditions
 pub mod Conjugates
 pub mod Growth
+pub mod Filing

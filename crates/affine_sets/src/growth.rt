@@ -16,25 +16,23 @@ ghost use Rattle.affine_sets.specs.Fields.{offset_in};
 ghost use Rattle.affine_sets.specs.Subs.{AreElements, AreShiftsWithin};
 ghost use Rattle.affine_sets.specs.Growth.{placed_map, Holds, Puts, HoldsMap, IsApart, AreOld, IsInBlock, IsGrowing, Extends, given_maps, AreProducts, IsTorn, IsGeneratedBy, AreHeld, AreListed};
 
+use crate::holding::Held;
 use crate::numbers::{Offset, place_of};
 use crate::sub::Sub;
 use exact_ops::{Move, NoMemory, Rotation};
-use group_closure::{Group, MAX_OPERATORS};
+use group_closure::Group;
 use std::alloc::Global;
 
 /// An element by the place of its operator.
 #[derive(Clone, Copy, PartialEq, Eq, Debug, Drop)]
-struct Placed {
-    place: u8,
-    shift: Offset,
+pub struct Placed {
+    pub place: u8,
+    pub shift: Offset,
 }
 
 /// Why a group does not grow: two elements with one rotation part, so that no point is fixed by all.
 #[derive(Clone, Copy, Drop)]
 struct Apart;
-
-/// The whole shift of the element that is held of the member at each place.
-type Held = [Option<Offset>; MAX_OPERATORS];
 
 /// The group that the elements of a group and e generate. None exactly where no rational point is fixed by all.
 pub fn grow(alloc: Global, s: &Sub, g: &Group, e: &Move) -> Result<Option<Sub>, NoMemory>
@@ -56,7 +54,7 @@ pub fn grow(alloc: Global, s: &Sub, g: &Group, e: &Move) -> Result<Option<Sub>, 
     let Ok(mut moves) = Vec::with_capacity(alloc, usize::from(g.len())) else {
         return Err(NoMemory);
     };
-    let mut held = [None; MAX_OPERATORS];
+    let mut held = Held::new(alloc)?;
     hold_elements(g, s, &mut held, &mut old);
     firsts.push_reserved(old[0]);
     let e = with_place(g, e);
@@ -80,7 +78,7 @@ fn hold_elements(g: &Group, s: &Sub, held: &mut Held, old: &mut Vec<Placed>)
 {
     for element in &s.moves {
         let x = with_place(g, element);
-        held[usize::from(x.place)] = Some(x.shift);
+        held.hold(&x);
         old.push_reserved(x);
     }
 }
@@ -124,7 +122,7 @@ fn list_held(g: &Group, held: &Held, moves: &mut Vec<Move>)
     ensures short { length moves.new.items ≤ length g.now }
 {
     for i in 0..g.len() {
-        if let Some(shift) = held[usize::from(i)] {
+        if let Some(shift) = held.shift_at(i as u8) {
             moves.push_reserved(Move {
                 op: g.op(i as u8),
                 shift: [shift.x, shift.y, shift.z],
@@ -215,8 +213,7 @@ fn put(g: &Group, held: &mut Held, x: &Placed) -> Result<bool, Apart>
     ensures same { IfOk result (λ is_new. is_new ≡ false → held.new ≡ held.old) }
     ensures apart { OnErr result (IsApart g.now held.old x.now) }
 {
-    let place = usize::from(x.place);
-    if let Some(shift) = held[place] {
+    if let Some(shift) = held.shift_at(x.place) {
         if shift == x.shift {
             return Ok(false);
         }
@@ -225,7 +222,7 @@ fn put(g: &Group, held: &mut Held, x: &Placed) -> Result<bool, Apart>
     if Rotation::of(&g.op(x.place).w()) == Rotation::IDENTITY {
         return Err(Apart);
     }
-    held[place] = Some(x.shift);
+    held.hold(x);
     Ok(true)
 }
 

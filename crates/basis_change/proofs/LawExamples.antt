@@ -28,7 +28,8 @@ use Rattle.phase_rules.specs.declared.pairs.Pairs.TheVariants.{Apart}
 use Rattle.phase_rules.specs.Rows.{Row, ◌·ʳ◌, ◌·ʳᶜ◌}
 use Rattle.phase_rules.specs.Equivalent.{AreEquivalent, IsClass}
 use Rattle.phase_rules.specs.Marks.{phase_shift}
-use Rattle.basis_change.specs.Laws.{changed_row, MovesSites, KeepsConjugates, KeepsOrbitSizes, KeepsAbsences, KeepsClassSizes}
+use Rattle.phase_rules.specs.declared.parts.Mark.TheVariants.{Phase}
+use Rattle.basis_change.specs.Laws.{changed_row, changed_mark, MovesSites, KeepsConjugates, KeepsOrbitSizes, KeepsAbsences, KeepsClassSizes}
 use Rattle.basis_change.proofs.ChangedGroup.{moves_sites, keeps_conjugates, keeps_orbit_sizes}
 use Rattle.basis_change.proofs.Reflections.{keeps_absences, keeps_class_sizes}
 use Rattle.basis_change.proofs.Examples.{o, element_of_one, centred}
@@ -225,6 +226,11 @@ other_conjugates k = not_conjugate ((k zero_point eighth_point (omega (arith, in
 a_row : changed_row (record { w = matrix_of (pos 1 ∷ o ∷ negsuc 0 ∷ o ∷ pos 1 ∷ o ∷ o ∷ o ∷ pos 1 ∷ []); t = origin; d = pos 1 }) (row (pos 1) (pos 2) (pos 3)) ≡ row (pos 1) (pos 2) (pos 4)
 unfolding ◌·ʳ◌ det adjugate scaled
 a_row = refl
+
+-- under x+1/4,y,z the row -1 0 0 has 6 parts with their sign turned, twice: 1 becomes -11, which is 13
+a_mark : changed_mark (record { w = identity; t = column (pos 6) o o; d = pos 1 }) (row (negsuc 0) o o) (Phase 1) ≡ Phase 13
+unfolding ◌·ʳ◌ ◌·ʳᶜ◌ det adjugate scaled
+a_mark = refl
 
 abbrev along : ℤ → Row
 along h = row h o o

@@ -5,6 +5,7 @@ pub mod Quotients
 pub mod Generators
 pub mod ChangedGroup
 pub mod Reflections
+mod ChangedMarks
 pub mod Indices
 pub mod ChangedPoints
 pub mod Decided

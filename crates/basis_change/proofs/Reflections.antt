@@ -26,17 +26,17 @@ use Rattle.basis_change.specs.Laws.{changed_row, KeepsAbsences, KeepsClassSizes}
 -- ---- h P
 
 module _ (c : CoordinateChange) (b : IsBasisChange c) where
-  row_back : (h : Row) → changed_row c h ·ʳ c.w ≡ h
+  pub row_back : (h : Row) → changed_row c h ·ʳ c.w ≡ h
   row_back h = ·ʳ_assoc h (inverse_matrix c.w) c.w ∙ ap (λ m. h ·ʳ m) (inverse_matrix-· c.w b.unimodular) ∙ ·ʳ-identity h
 
   row_there : (h : Row) → changed_row c (h ·ʳ c.w) ≡ h
   row_there h = ·ʳ_assoc h c.w (inverse_matrix c.w) ∙ ap (λ m. h ·ʳ m) (·-inverse_matrix c.w b.unimodular) ∙ ·ʳ-identity h
 
-  row_apart : (h g : Row) → changed_row c h ≡ changed_row c g → h ≡ g
+  pub row_apart : (h g : Row) → changed_row c h ≡ changed_row c g → h ≡ g
   row_apart h g e = sym (row_back h) ∙ ap (λ r. r ·ʳ c.w) e ∙ row_back g
 
   -- the changed matrix takes h P to h W P
-  row_turned : (g h : Map) → IsChanged c g h → (r : Row) → changed_row c r ·ʳ h.w ≡ changed_row c (r ·ʳ g.w)
+  pub row_turned : (g h : Map) → IsChanged c g h → (r : Row) → changed_row c r ·ʳ h.w ≡ changed_row c (r ·ʳ g.w)
   row_turned g h e r =
       sym (row_there (changed_row c r ·ʳ h.w))
       ∙ ap (changed_row c) (·ʳ_assoc (changed_row c r) h.w c.w ∙ ap (λ m. changed_row c r ·ʳ m) e.rotation ∙ sym (·ʳ_assoc (changed_row c r) c.w g.w) ∙ ap (λ v. v ·ʳ g.w) (row_back r))
@@ -67,7 +67,7 @@ module _ (c : CoordinateChange) (b : IsBasisChange c) where
 -- ---- absences
 
 -- the phase shift of a map is that of its operator, modulo the cell
-phase_of_operator : (g : Map) (r : Row) → int_rem_euclid (r ·ʳᶜ (operator_of UNIT g).t) (pos UNIT) ≡ int_rem_euclid (r ·ʳᶜ g.s) (pos UNIT)
+pub phase_of_operator : (g : Map) (r : Row) → int_rem_euclid (r ·ʳᶜ (operator_of UNIT g).t) (pos UNIT) ≡ int_rem_euclid (r ·ʳᶜ g.s) (pos UNIT)
 unfolding operator_of
 phase_of_operator g r =
     let k = modulo_is UNIT some_parts g.s in

@@ -1,5 +1,5 @@
 -- What is promised of a space group in other coordinates.
-use Rattle.std.specs.Prelude.{◌≡◌, ◌↔◌, List, length}
+use Rattle.std.specs.Prelude.{◌≡◌, ◌↔◌, pos, ◌+ℤ◌, ◌*ℤ◌, List, length}
 use Rattle.lattice_algebra.specs.Matrix.{inverse_matrix}
 use Rattle.lattice_algebra.specs.Operator.{Operator}
 use Rattle.lattice_algebra.specs.Map.{Map}
@@ -9,9 +9,11 @@ use Rattle.space_groups.specs.Space.{IsInSite, AreConjugate}
 use Rattle.space_groups.specs.Lists.{IsOrbitList}
 use Rattle.space_groups.specs.Bases.{CoordinateChange, IsChanged, changed_point}
 use Rattle.phase_rules.specs.declared.pairs.Pairs.{Pairs}
-use Rattle.phase_rules.specs.Rows.{Row, ◌·ʳ◌}
+use Rattle.phase_rules.specs.declared.parts.Mark.{Mark}
+use Rattle.phase_rules.specs.declared.parts.Mark.TheVariants.{Absent, Free, Phase}
+use Rattle.phase_rules.specs.Rows.{Row, ◌·ʳ◌, ◌·ʳᶜ◌}
 use Rattle.phase_rules.specs.Equivalent.{IsClass}
-use Rattle.phase_rules.specs.Marks.{IsAbsent}
+use Rattle.phase_rules.specs.Marks.{phase_of, IsAbsent}
 
 -- the row h P, where P is the inverse of the matrix of the change
 abbrev pub changed_row : CoordinateChange → Row → Row
@@ -40,3 +42,9 @@ KeepsAbsences members c changed = (h : Row) → IsAbsent members h ↔ IsAbsent 
 abbrev pub KeepsClassSizes : List Operator → CoordinateChange → List Operator → Type 0
 KeepsClassSizes members c changed =
     (pairs : Pairs) (h : Row) (class there : List Row) → IsClass pairs members h class → IsClass pairs changed (changed_row c h) there → length class ≡ length there
+
+-- the mark of h P from that of h: a phase s becomes s + 2 (h P).t, where t is the translation of the change
+abbrev pub changed_mark : CoordinateChange → Row → Mark → Mark
+changed_mark c h Absent = Absent
+changed_mark c h Free = Free
+changed_mark c h (Phase s) = Phase (phase_of (pos s +ℤ pos 2 *ℤ (changed_row c h ·ʳᶜ c.t)))

@@ -6,8 +6,8 @@
 //! there is one such group (`one_changed_group`, `some_changed_group`, `some_recelled_group`). Each refusal comes where it
 //! is the first that holds, and all but the count of the operators is tested before memory is taken. Site-symmetry
 //! groups and conjugate points are carried over; for a change of basis moreover orbits have as many points in a cell, h P is
-//! absent exactly where h is, and its class has as many rows, with Friedel's law and without it. `Change::index` is h P, and
-//! `Change::point` is c x.
+//! absent exactly where h is, its mark is that of h but for twice the shift of the origin (`mark_in_another_basis`), and its
+//! class has as many rows, with Friedel's law and without it. `Change::index` is h P, and `Change::point` is c x.
 #![tactic(auto)]
 
 pub mod basis;
@@ -23,7 +23,7 @@ mod wide;
 
 pub use basis::{ChangeFault, change};
 pub use cell::{CellChange, RecellFault, recell};
-pub use laws::{one_changed_group, some_changed_group, some_recelled_group};
+pub use laws::{mark_in_another_basis, one_changed_group, some_changed_group, some_recelled_group};
 
 /// The greatest denominator of a change of the cell, and the greatest size of an entry of its matrix.
 pub const MAX_CELL: u32 = 12;

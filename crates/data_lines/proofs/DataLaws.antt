@@ -1,8 +1,11 @@
 -- Data lines decide what is read: their values are one list, or one of them is the first bad one.
-use Rattle.std.proofs.Common.{◌≡◌, ◌⊎◌, ◌+◌, ℕ, false, List, [], ◌∷◌, map, get_or, refl, sym, subst, inl, inr, ⊎_elim}
+use Rattle.std.proofs.Common.{◌≡◌, ◌⊎◌, ◌+◌, ◌≤◌, ◌==◌, arith, length, ℕ, false, List, [], ◌∷◌, map, get_or, refl, sym, subst, inl, inr, ⊎_elim}
 use Rattle.std.proofs.lemmas.Bool.{cases_Bool}
+use Rattle.std.proofs.lemmas.List.Splits.{length-slice_split}
+use Rattle.std.proofs.lemmas.List.Sums.{count_by-le-length}
+use Rattle.triplet_text.specs.Bytes.{line_feed}
 use Rattle.triplet_text.specs.Pieces.{is_skipped}
-use Rattle.triplet_text.specs.Lines.{end, skipped, read}
+use Rattle.triplet_text.specs.Lines.{lines_of, end, skipped, read}
 use Rattle.triplet_text.proofs.LineSteps.{skipped_from, not_skipped}
 use Rattle.triplet_text.proofs.SaidLines as said
 use Rattle.triplet_text.proofs.SaidLines.{IsGoodLine, AreBadLines, SayOneThing}
@@ -51,6 +54,20 @@ module _ {A : Type 0} (IsWritten : List ℕ → A → Type 0) where
   pub written_or_bad : ((line : List ℕ) → WrittenOrNot line) → (first : ℕ) (lines : List (List ℕ)) → WrittenOrBad first lines
   written_or_bad decide first [] = inl ([], end)
   written_or_bad decide first (line ∷ lines) = one_more_line first line lines (good_or_bad line (decide line)) (written_or_bad decide first lines)
+
+-- no more values are written than there are lines, and no more lines than bytes, and one
+module _ {A : Type 0} {IsWritten : List ℕ → A → Type 0} where
+  few_written : {lines : List (List ℕ)} {list : List A} → AreWritten IsWritten lines list → length list ≤ length lines
+  few_written end = omega arith
+  few_written (skipped s rest) = let l = few_written rest in omega (arith, l)
+  few_written (read d rest) = let l = few_written rest in omega (arith, l)
+
+  pub few_values : (bytes : List ℕ) (list : List A) → AreWritten IsWritten (lines_of bytes) list → length list ≤ length bytes + 1
+  few_values bytes list w =
+      let l = few_written w in
+      let n = length-slice_split (λ byte. byte == line_feed) bytes in
+      let c = count_by-le-length (λ byte. byte == line_feed) bytes in
+      omega (arith, l, n, c)
 
 -- values that are seen as others
 module _ {A B : Type 0} (IsWritten : List ℕ → B → Type 0) (view : A → B) where

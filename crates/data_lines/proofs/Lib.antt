@@ -1,4 +1,5 @@
 mod Faults
 mod Cuts
 pub mod DataLaws
+pub mod Numbers
 mod Examples

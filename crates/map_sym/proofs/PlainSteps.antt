@@ -7,7 +7,7 @@ use Rattle.triplet_text.specs.Bytes.{is_digit, line_feed, minus_sign}
 use Rattle.triplet_text.specs.Digits.{with_digits}
 use Rattle.triplet_text.specs.Integers.{IsInteger, bare, minus}
 use Rattle.triplet_text.proofs.IntegerLaw.{natural_is, natural_small}
-use Rattle.map_sym.specs.declared.reading.TheConstants.{VALUE_DIGITS}
+use Rattle.data_lines.specs.declared.number.TheConstants.{NUMBER_DIGITS}
 use Rattle.map_sym.specs.PlainLines.{IsDigitsLine, IsPlainLine}
 
 -- the text begins with digits, no more than a value has, which write n; the rest follows them
@@ -15,7 +15,7 @@ pub record AreDigitsBefore (text rest : List ℕ) (n : ℕ) : Type 0 where
   pub run : List ℕ
   pub cut : text ≡ run ++ rest
   pub digits : with_digits 0 run ≡ Some n
-  pub few : length run ≤ VALUE_DIGITS
+  pub few : length run ≤ NUMBER_DIGITS
 
 pub none_before : (text : List ℕ) → AreDigitsBefore text text 0
 none_before text = record { run = []; cut = refl; digits = refl; few = omega arith }
@@ -40,10 +40,10 @@ module _ (text rest : List ℕ) (n : ℕ) (h : AreDigitsBefore text rest n) wher
   pub shorter : length rest ≤ length text
   shorter = let e = taken_is in omega (arith, e)
 
-  pub less : (length text - length rest ≡ VALUE_DIGITS → ⊥) → length text - length rest < VALUE_DIGITS
+  pub less : (length text - length rest ≡ NUMBER_DIGITS → ⊥) → length text - length rest < NUMBER_DIGITS
   less other = let e = taken_is in let f = h.few in omega (arith, e, f, other)
 
-  pub one_more : 1 ≤ length rest → length text - length rest < VALUE_DIGITS → is_digit (get_or rest 0 0) ≡ true → AreDigitsBefore text (take (length rest - 1) (drop 1 rest)) (10 * n + (get_or rest 0 0 - 48))
+  pub one_more : 1 ≤ length rest → length text - length rest < NUMBER_DIGITS → is_digit (get_or rest 0 0) ≡ true → AreDigitsBefore text (take (length rest - 1) (drop 1 rest)) (10 * n + (get_or rest 0 0 - 48))
   one_more l few d = record {
     run = h.run ++ get_or rest 0 0 ∷ [];
     cut = cut_first rest h.run text l h.cut ∙ sym (append_assoc h.run (get_or rest 0 0 ∷ []) (take (length rest - 1) (drop 1 rest)));
@@ -51,7 +51,7 @@ module _ (text rest : List ℕ) (n : ℕ) (h : AreDigitsBefore text rest n) wher
     few = let e = taken_is in let k = length-append h.run (get_or rest 0 0 ∷ []) in omega (arith, e, k, few);
   }
 
-  pub small : length text - length rest < VALUE_DIGITS → n < 10 ^ 8
+  pub small : length text - length rest < NUMBER_DIGITS → n < 10 ^ 8
   small few = by h.run h.digits (let e = taken_is in omega (arith, e, few))
     where
       by : (run : List ℕ) → with_digits 0 run ≡ Some n → length run ≤ 8 → n < 10 ^ 8
@@ -62,16 +62,16 @@ module _ (text rest : List ℕ) (n : ℕ) (h : AreDigitsBefore text rest n) wher
   digits_line l some is = record {
     field = h.run;
     cut = subst (λ byte. text ≡ h.run ++ byte ∷ take (length rest - 1) (drop 1 rest)) is (cut_first rest h.run text l h.cut);
-    is_natural = natural_is VALUE_DIGITS h.run n (λ z. some (let e = taken_is in omega (arith, e, z))) h.few h.digits;
+    is_natural = natural_is NUMBER_DIGITS h.run n (λ z. some (let e = taken_is in omega (arith, e, z))) h.few h.digits;
   }
 
 -- ---- with a sign or none
 
 pub digits_small : {text : List ℕ} {n : ℕ} {rest : List ℕ} → IsDigitsLine text n rest → n < 10 ^ 9
-digits_small h = natural_small VALUE_DIGITS h.field _ h.is_natural
+digits_small h = natural_small NUMBER_DIGITS h.field _ h.is_natural
 
 pub plain_bare : (text : List ℕ) (n : ℕ) (rest : List ℕ) → IsDigitsLine text n rest → IsPlainLine text (to_z w32 n) rest
-plain_bare text n rest h = record { field = h.field; cut = h.cut; is_value = subst (IsInteger VALUE_DIGITS h.field) (sym (whole n (digits_small h))) (bare h.is_natural) }
+plain_bare text n rest h = record { field = h.field; cut = h.cut; is_value = subst (IsInteger NUMBER_DIGITS h.field) (sym (whole n (digits_small h))) (bare h.is_natural) }
   where
     whole : (n : ℕ) → n < 10 ^ 9 → to_z w32 n ≡ pos n
     whole n few = omega (arith, ints)
@@ -83,7 +83,7 @@ plain_behind_minus (byte ∷ text) n rest some is h =
     record {
       field = byte ∷ h.field;
       cut = ap (λ (t : List ℕ). byte ∷ t) cut;
-      is_value = subst (λ (k : ℕ). IsInteger VALUE_DIGITS (k ∷ h.field) (to_z w32 (of_z w32 (pos 0 -ℤ to_z w32 n)))) (sym is) (subst (IsInteger VALUE_DIGITS (minus_sign ∷ h.field)) (sym (negated n (digits_small h))) (minus h.is_natural));
+      is_value = subst (λ (k : ℕ). IsInteger NUMBER_DIGITS (k ∷ h.field) (to_z w32 (of_z w32 (pos 0 -ℤ to_z w32 n)))) (sym is) (subst (IsInteger NUMBER_DIGITS (minus_sign ∷ h.field)) (sym (negated n (digits_small h))) (minus h.is_natural));
     }
   where
     negated : (n : ℕ) → n < 10 ^ 9 → to_z w32 (of_z w32 (pos 0 -ℤ to_z w32 n)) ≡ neg_ℤ (pos n)

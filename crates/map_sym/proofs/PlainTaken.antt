@@ -16,11 +16,11 @@ use Rattle.triplet_text.proofs.LineSteps.{not_skipped}
 use Rattle.triplet_text.proofs.SaidLines.{AreSaidBefore, first_bad}
 use Rattle.data_lines.specs.Fields.{fields_of}
 use Rattle.data_lines.specs.DataLines.{IsDataLine, IsBadLine, AddsWritten}
-use Rattle.map_sym.specs.declared.reading.TheConstants.{VALUE_DIGITS}
+use Rattle.data_lines.specs.declared.number.TheConstants.{NUMBER_DIGITS}
 use Rattle.map_sym.specs.declared.reading.ValueFault.{ValueFault}
 use Rattle.map_sym.specs.declared.reading.ValueFault.TheVariants.{Bad, Count, NoMemory}
 use Rattle.map_sym.specs.ValueLines.{IsValueLine}
-use Rattle.map_sym.proofs.ValueLaws.{narrow}
+use Rattle.data_lines.proofs.Numbers.{narrow}
 use Rattle.map_sym.specs.PlainLines.{IsPlainLine, IsTaken, IsLineFaultAt, IsLineFaultOf}
 
 -- ---- bytes of a number
@@ -33,12 +33,12 @@ module _ (p : ℕ → Bool) (no_digit : (byte : ℕ) → is_digit byte ≡ true 
   digits_lack [] h = tt
   digits_lack (byte ∷ text) h = (no_digit byte h.0, digits_lack text h.1)
 
-  number_lacks : {text : List ℕ} {z : ℤ} → IsInteger VALUE_DIGITS text z → Lacks p text
+  number_lacks : {text : List ℕ} {z : ℤ} → IsInteger NUMBER_DIGITS text z → Lacks p text
   number_lacks (bare {text = text} h) = digits_lack text h.digits.digits
   number_lacks (plus {text = text} h) = (no_plus, digits_lack text h.digits.digits)
   number_lacks (minus {text = text} h) = (no_minus, digits_lack text h.digits.digits)
 
-some_bytes : {text : List ℕ} {z : ℤ} → IsInteger VALUE_DIGITS text z → 0 < length text
+some_bytes : {text : List ℕ} {z : ℤ} → IsInteger NUMBER_DIGITS text z → 0 < length text
 some_bytes (bare h) = h.digits.some
 some_bytes (plus h) = omega arith
 some_bytes (minus h) = omega arith

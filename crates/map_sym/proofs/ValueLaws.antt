@@ -1,64 +1,22 @@
 -- What data lines write: values of at most nine digits, and as many of them as there are grid points in a cell, or not.
-use Rattle.std.proofs.Common.{◌≡◌, ℕ, ◌+◌, ◌^◌, ◌<◌, ◌≤◌, ℤ, unsigned_abs, w32, w64, FitsSigned, to_z, of_z, List, [], ◌∷◌, length, ◌==◌, ◌⊎◌, inl, inr, ⊎_elim, refl, sym, ap, subst, ◌∙◌, arith}
+use Rattle.std.proofs.Common.{◌≡◌, ℕ, ℤ, List, [], ◌∷◌, length, ◌⊎◌, inl, inr, ⊎_elim, refl, sym, ap, subst, ◌∙◌}
 use Rattle.std.proofs.lemmas.Bool.{cases_eq}
-use Rattle.std.proofs.lemmas.Int.{ints, to_z-of_z}
-use Rattle.std.proofs.lemmas.List.Splits.{length-slice_split}
-use Rattle.std.proofs.lemmas.List.Sums.{count_by-le-length}
 use Rattle.triplet_text.specs.Integers.{IsInteger}
-use Rattle.triplet_text.proofs.IntegerLaw.{integer_small, one_integer, integer_or_none}
-use Rattle.triplet_text.specs.Bytes.{line_feed}
-use Rattle.triplet_text.specs.Lines.{lines_of, end, skipped, read}
+use Rattle.triplet_text.proofs.IntegerLaw.{one_integer, integer_or_none}
 use Rattle.data_lines.specs.Fields.{fields_of}
 use Rattle.data_lines.specs.DataLines.{AreWritten}
 use Rattle.data_lines.proofs.DataLaws.{same_values, no_bad_line, written_or_bad, WrittenOrNot}
 use Rattle.grid_tags.specs.Grids.{Grid, points}
-use Rattle.map_sym.specs.declared.reading.TheConstants.{VALUE_DIGITS}
+use Rattle.data_lines.specs.declared.number.TheConstants.{NUMBER_DIGITS}
 use Rattle.map_sym.specs.SummedMaps.{GridValues}
 use Rattle.map_sym.specs.ValueLines.{IsValueLine, AreValuesOf, IsFirstBad, IsOtherCount}
-
--- ---- a value that was read
-
-module _ (field : List ℕ) (n : ℤ) (is : IsInteger VALUE_DIGITS field n) where
-  small : unsigned_abs n < 10 ^ 9
-  small = integer_small VALUE_DIGITS is
-
-  wide : to_z w64 (of_z w64 n) ≡ n
-  wide = let l = small in omega (arith, ints, l)
-
-  pub narrow : FitsSigned w32 n
-  narrow = let l = small in omega (arith, ints, l)
-
-  pub value_fits : FitsSigned w32 (to_z w64 (of_z w64 n))
-  value_fits = subst (FitsSigned w32) (sym wide) narrow
-
-  pub value_line : (line : List ℕ) → fields_of line ≡ field ∷ [] → IsValueLine line (to_z w32 (of_z w32 (to_z w64 (of_z w64 n))))
-  value_line line one = record {
-    field = field;
-    is_field = one;
-    is_value = subst (IsInteger VALUE_DIGITS field) (sym (ap (λ z. to_z w32 (of_z w32 z)) wide ∙ to_z-of_z w32 n narrow)) is;
-  }
-
--- ---- how many there are
-
-few_values : {lines : List (List ℕ)} {list : List ℤ} → AreWritten IsValueLine lines list → length list ≤ length lines
-few_values end = omega arith
-few_values (skipped s rest) = let l = few_values rest in omega (arith, l)
-few_values (read d rest) = let l = few_values rest in omega (arith, l)
-
--- no more than bytes, and one
-pub few_read : (bytes : List ℕ) (list : List ℤ) → AreWritten IsValueLine (lines_of bytes) list → length list ≤ length bytes + 1
-few_read bytes list w =
-    let l = few_values w in
-    let n = length-slice_split (λ byte. byte == line_feed) bytes in
-    let c = count_by-le-length (λ byte. byte == line_feed) bytes in
-    omega (arith, l, n, c)
 
 -- ---- what lines write
 
 pub one_value : (line : List ℕ) (y z : ℤ) → IsValueLine line y → IsValueLine line z → y ≡ z
 one_value line y z p q =
     let same : p.field ≡ q.field = let e : p.field ∷ [] ≡ q.field ∷ [] = sym p.is_field ∙ q.is_field in cc in
-    one_integer VALUE_DIGITS q.field y z (subst (λ f. IsInteger VALUE_DIGITS f y) same p.is_value) q.is_value
+    one_integer NUMBER_DIGITS q.field y z (subst (λ f. IsInteger NUMBER_DIGITS f y) same p.is_value) q.is_value
 
 pub value_or_none : (line : List ℕ) → WrittenOrNot IsValueLine line
 value_or_none line = by (fields_of line) refl
@@ -67,8 +25,8 @@ value_or_none line = by (fields_of line) refl
     by [] e = inr (λ z w. let same : [] ≡ w.field ∷ [] = sym e ∙ w.is_field in absurd cc)
     by (field ∷ []) e = ⊎_elim
         (λ is. inl (is.0, record { field = field; is_field = e; is_value = is.1 }))
-        (λ none. inr (λ z w. let same : field ≡ w.field = let f : field ∷ [] ≡ w.field ∷ [] = sym e ∙ w.is_field in cc in none z (subst (λ f. IsInteger VALUE_DIGITS f z) (sym same) w.is_value)))
-        (integer_or_none VALUE_DIGITS field)
+        (λ none. inr (λ z w. let same : field ≡ w.field = let f : field ∷ [] ≡ w.field ∷ [] = sym e ∙ w.is_field in cc in none z (subst (λ f. IsInteger NUMBER_DIGITS f z) (sym same) w.is_value)))
+        (integer_or_none NUMBER_DIGITS field)
     by (field ∷ next ∷ fields) e = inr (λ z w. let same : field ∷ next ∷ fields ≡ w.field ∷ [] = sym e ∙ w.is_field in absurd cc)
 
 pub one_list : (lines : List (List ℕ)) (a b : List ℤ) → AreWritten IsValueLine lines a → AreWritten IsValueLine lines b → a ≡ b

@@ -5,7 +5,7 @@ use Rattle.triplet_text.specs.Bytes.{line_feed}
 use Rattle.triplet_text.specs.Integers.{IsNatural, IsInteger}
 use Rattle.triplet_text.specs.Lines.{lines_of}
 use Rattle.data_lines.specs.DataLines.{AddsWritten, IsBadLine}
-use Rattle.map_sym.specs.declared.reading.TheConstants.{VALUE_DIGITS}
+use Rattle.data_lines.specs.declared.number.TheConstants.{NUMBER_DIGITS}
 use Rattle.map_sym.specs.declared.reading.ValueFault.{ValueFault}
 use Rattle.map_sym.specs.declared.reading.ValueFault.TheVariants.{Bad, Count, NoMemory}
 use Rattle.map_sym.specs.ValueLines.{IsValueLine, IsFirstBad}
@@ -14,13 +14,13 @@ use Rattle.map_sym.specs.ValueLines.{IsValueLine, IsFirstBad}
 pub record IsDigitsLine (text : List ℕ) (n : ℕ) (rest : List ℕ) : Type 0 where
   pub field : List ℕ
   pub cut : text ≡ field ++ line_feed ∷ rest
-  pub is_natural : IsNatural VALUE_DIGITS field n
+  pub is_natural : IsNatural NUMBER_DIGITS field n
 
 -- the first line is digits with a sign before them or none, which write the value, and the rest follows its line feed
 pub record IsPlainLine (text : List ℕ) (value : ℤ) (rest : List ℕ) : Type 0 where
   pub field : List ℕ
   pub cut : text ≡ field ++ line_feed ∷ rest
-  pub is_value : IsInteger VALUE_DIGITS field value
+  pub is_value : IsInteger NUMBER_DIGITS field value
 
 -- ---- steps of reading
 

@@ -4,7 +4,7 @@ use Rattle.triplet_text.specs.Integers.{IsInteger}
 use Rattle.data_lines.specs.Fields.{fields_of}
 use Rattle.data_lines.specs.DataLines.{AreWritten, IsBadLine, IsFirstSuch}
 use Rattle.grid_tags.specs.Grids.{Grid, points}
-use Rattle.map_sym.specs.declared.reading.TheConstants.{VALUE_DIGITS}
+use Rattle.data_lines.specs.declared.number.TheConstants.{NUMBER_DIGITS}
 use Rattle.map_sym.specs.declared.reading.ValueFault.{ValueFault}
 use Rattle.map_sym.specs.declared.reading.ValueFault.TheVariants.{Bad, Count, NoMemory}
 use Rattle.map_sym.specs.SummedMaps.{GridValues, AreAllPoints}
@@ -13,7 +13,7 @@ use Rattle.map_sym.specs.SummedMaps.{GridValues, AreAllPoints}
 pub record IsValueLine (line : List ℕ) (value : ℤ) : Type 0 where
   pub field : List ℕ
   pub is_field : fields_of line ≡ field ∷ []
-  pub is_value : IsInteger VALUE_DIGITS field value
+  pub is_value : IsInteger NUMBER_DIGITS field value
 
 -- the values that these lines write are one for each grid point of the cell, in order
 pub record AreValuesOf (lines : List (List ℕ)) (grid : Grid) (given : GridValues) : Type 0 where

@@ -24,6 +24,6 @@ pub use laws::{
     one_summed_map, some_summed_map, sums_of_grid_list_are_total,
 };
 pub use printing::print_map;
-pub use reading::{VALUE_DIGITS, ValueFault, read_value, read_values};
+pub use reading::{ValueFault, read_value, read_values};
 pub use sym_map::{SymMap, symmetrize};
 pub use values::Values;

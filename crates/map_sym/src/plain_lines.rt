@@ -2,10 +2,10 @@
 ghost use Rattle.std.specs.Prelude.{IfSome};
 ghost use Rattle.map_sym.specs.PlainLines.{IsDigitsLine, IsPlainLine};
 
-use crate::reading::VALUE_DIGITS;
+use data_lines::NUMBER_DIGITS;
 
 /// The value that the first line writes and what follows its line feed, where the line has nothing but a minus or none and at
-/// most `VALUE_DIGITS` digits. Some lines that write a value are not so.
+/// most `NUMBER_DIGITS` digits. Some lines that write a value are not so.
 #[inline(always)]
 pub fn plain_line(text: &[u8]) -> Option<(i32, &[u8])>
     ensures { IfSome result (λ plain. IsPlainLine text.now plain.0 plain.1.now) }
@@ -22,7 +22,7 @@ pub fn plain_line(text: &[u8]) -> Option<(i32, &[u8])>
     }
 }
 
-/// The number that the first line writes with at most `VALUE_DIGITS` digits and nothing else, and what follows its line feed.
+/// The number that the first line writes with at most `NUMBER_DIGITS` digits and nothing else, and what follows its line feed.
 #[inline(always)]
 fn digits_line(text: &[u8]) -> Option<(u32, &[u8])>
     ensures { IfSome result (λ cut. IsDigitsLine text.now cut.0 cut.1.now) }
@@ -37,7 +37,7 @@ fn digits_line(text: &[u8]) -> Option<(u32, &[u8])>
             }
             return Some((n, more));
         }
-        if taken == VALUE_DIGITS {
+        if taken == NUMBER_DIGITS {
             return None;
         }
         n = 10 * n + u32::from(*byte - b'0');

@@ -7,13 +7,10 @@ ghost use Rattle.map_sym.specs.PlainLines.{IsTaken, IsLineFaultAt, IsLineFaultOf
 
 use crate::plain_lines::plain_line;
 use crate::values::Values;
-use data_lines::one_field;
+use data_lines::{one_field, read_number};
 use grid_tags::GridSize;
 use std::alloc::Global;
-use triplet_text::{cut_line, is_skipped_line, read_integer};
-
-/// The most digits that a value has.
-pub const VALUE_DIGITS: usize = 9;
+use triplet_text::{cut_line, is_skipped_line};
 
 /// Why values could not be read.
 #[derive(Clone, Copy, PartialEq, Eq, Debug, Drop)]
@@ -26,15 +23,15 @@ pub enum ValueFault {
     NoMemory,
 }
 
-/// The value that a line writes: one field of at most `VALUE_DIGITS` digits with a sign before them or none. None exactly where
+/// The value that a line writes: one field of at most `NUMBER_DIGITS` digits with a sign before them or none. None exactly where
 /// it writes none.
 pub fn read_value(line: &[u8]) -> Option<i32>
     ensures some { IfSome result (IsValueLine line.now) }
     ensures none { IfNone result ((value : ℤ) → IsValueLine line.now value → ⊥) }
 {
     let field = one_field(line)?;
-    let value = read_integer(field, VALUE_DIGITS)?;
-    Some(value as i32)
+    let value = read_number(field)?;
+    Some(value)
 }
 
 /// The values that the lines write that are not skipped, one for each grid point of a cell, in ascending order of the points. The

@@ -80,13 +80,13 @@ same_fixers pairs members h g group a = by pairs a.same
 -- ---- absent together
 
 -- h.t of a product, but for whole cells
-shift_of_product : (h : Row) (f g : Operator) → (k : ℤ) × (h ·ʳᶜ (product UNIT f g).t ≡ (h ·ʳ f.w) ·ʳᶜ g.t +ℤ h ·ʳᶜ f.t +ℤ pos UNIT *ℤ k)
+pub shift_of_product : (h : Row) (f g : Operator) → (k : ℤ) × (h ·ʳᶜ (product UNIT f g).t ≡ (h ·ʳ f.w) ·ʳᶜ g.t +ℤ h ·ʳᶜ f.t +ℤ pos UNIT *ℤ k)
 shift_of_product h f g =
     let m = modulo_is UNIT some_parts (f.w ·ᶜ g.t +ᶜ f.t) in
     (h ·ʳᶜ m.0, ap (λ c. h ·ʳᶜ c) (product_t f g ∙ m.1) ∙ ·ʳᶜ-+ᶜ h _ _ ∙ ap₂ (λ a b. a +ℤ b) (·ʳᶜ-+ᶜ h _ f.t ∙ ap (λ a. a +ℤ h ·ʳᶜ f.t) (sym (·ʳᶜ_assoc h f.w g.t))) (·ʳᶜ-times h (pos UNIT) m.0))
 
 -- and of an inverse, at the row that the operator makes
-shift_of_inverse : (members : List Operator) (h : Row) (k : Operator) → IsGroup members → Contains members k → (n : ℤ) × ((h ·ʳ k.w) ·ʳᶜ (inverse UNIT k).t ≡ neg_ℤ (h ·ʳᶜ k.t) +ℤ pos UNIT *ℤ n)
+pub shift_of_inverse : (members : List Operator) (h : Row) (k : Operator) → IsGroup members → Contains members k → (n : ℤ) × ((h ·ʳ k.w) ·ʳᶜ (inverse UNIT k).t ≡ neg_ℤ (h ·ʳᶜ k.t) +ℤ pos UNIT *ℤ n)
 shift_of_inverse members h k group m =
     let g = h ·ʳ k.w in
     let v = inverse UNIT k in
@@ -103,7 +103,7 @@ left_over a b c s t n x y z p q r =
     (p, (q, (r, tt))) tt
 
 -- the member k^-1 then f then k shifts h k as f shifts h
-absent_moved : (members : List Operator) (h : Row) (k : Operator) → IsGroup members → Contains members k → IsAbsent members h → IsAbsent members (h ·ʳ k.w)
+pub absent_moved : (members : List Operator) (h : Row) (k : Operator) → IsGroup members → Contains members k → IsAbsent members h → IsAbsent members (h ·ʳ k.w)
 absent_moved members h k group m a =
     let g = h ·ʳ k.w in
     let v = inverse UNIT k in
@@ -135,7 +135,7 @@ whole_opposite x e =
     let f = opposite_of x (pos UNIT) q (quotient_is UNIT some_parts (neg_ℤ x) ∙ ap (λ r. r +ℤ pos UNIT *ℤ q) e) in
     ap (λ z. int_rem_euclid z (pos UNIT)) f ∙ rem_of_times UNIT some_parts (neg_ℤ q)
 
-absent_opposite : (members : List Operator) (h : Row) → IsAbsent members h → IsAbsent members (neg_row h)
+pub absent_opposite : (members : List Operator) (h : Row) → IsAbsent members h → IsAbsent members (neg_row h)
 absent_opposite members h a = record {
   by = a.by;
   member = a.member;

@@ -16,7 +16,7 @@ use Rattle.phase_rules.specs.declared.tallies.Turn.{Turn}
 use Rattle.phase_rules.specs.declared.tallies.Tally.{Tally}
 use Rattle.phase_rules.specs.Rows.{Row, row_of, row_eq, ◌·ʳ◌, ◌·ʳᶜ◌, neg_row}
 use Rattle.phase_rules.specs.Equivalent.{IsSameReflection, AreEquivalent, IsClass, fixes, reverses}
-use Rattle.phase_rules.specs.Marks.{phase_shift, IsAbsent, IsRestrictedTo, IsFree, IsMark}
+use Rattle.phase_rules.specs.Marks.{phase_shift, IsAbsent, IsRestrictedTo, IsFree, IsMark, carried_mark, opposite_mark}
 use Rattle.phase_rules.specs.Tallies.{IsTurn, AreTurned, HasReverser, IsTally}
 use Rattle.phase_rules.specs.Halves.{IsBelow, AreBelow, HasNoEarlierOpposite, HaveOpposites}
 
@@ -196,6 +196,20 @@ mark_free = free
 
 no_mark : IsMark Friedel p21c (index o (pos 1) o) Free → ⊥
 no_mark m = not_free m
+
+-- x,y,z+1/4 with h = 0 0 3: s becomes s - 36 parts, modulo a cell; and 4 parts have 20 as their opposite
+carried_phase : carried_mark (index o o (pos 3)) (record { w = identity; t = column o o (pos 6) }) (Phase 1) ≡ Phase 13
+unfolding ◌·ʳᶜ◌
+carried_phase = refl
+
+carried_absence : carried_mark (index o o (pos 3)) identity_operator Absent ≡ Absent
+carried_absence = refl
+
+opposite_phase : opposite_mark (Phase 4) ≡ Phase 20
+opposite_phase = refl
+
+opposite_free : opposite_mark Free ≡ Free
+opposite_free = refl
 
 -- ---- tallies: x,y,z fixes 0 1 2, and x+1/2,-y+1/2,-z reverses it
 

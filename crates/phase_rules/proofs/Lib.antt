@@ -6,4 +6,5 @@ pub mod Opposites
 pub mod BothPairs
 pub mod SomeMark
 pub mod Alike
+mod CarriedMarks
 mod Examples

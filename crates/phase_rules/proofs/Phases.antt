@@ -197,7 +197,7 @@ is_zero z n e h = e ∙ ap pos h
 size_of_part : (z : ℤ) → IsPart UNIT z → unsigned_abs z ≤ UNIT
 size_of_part z p = omega (arith, ints)
 
-whole_size : (z : ℤ) → IsPart UNIT z → z ≡ pos (unsigned_abs z)
+pub whole_size : (z : ℤ) → IsPart UNIT z → z ≡ pos (unsigned_abs z)
 whole_size (pos n) p = refl
 whole_size (negsuc n) p = absurd (omega (arith, ints))
 

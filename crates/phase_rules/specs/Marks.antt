@@ -1,5 +1,5 @@
 -- Systematic absences and phase restrictions. International Tables B.
-use Rattle.std.specs.Prelude.{◌≡◌, ◌≢◌, ℕ, ℤ, pos, List}
+use Rattle.std.specs.Prelude.{◌≡◌, ◌≢◌, ℕ, ℤ, pos, neg_ℤ, ◌-ℤ◌, ◌*ℤ◌, unsigned_abs, List}
 use Rattle.std.specs.Int.{int_rem_euclid}
 use Rattle.std.specs.List.{Contains}
 use Rattle.lattice_algebra.specs.Operator.{Operator}
@@ -41,3 +41,19 @@ abbrev pub IsMark : Pairs → List Operator → Row → Mark → Type 0
 IsMark pairs members h Absent = IsAbsent members h
 IsMark pairs members h Free = IsFree pairs members h
 IsMark pairs members h (Phase s) = IsRestrictedTo pairs members h s
+
+-- a number of parts, modulo a cell
+abbrev pub phase_of : ℤ → ℕ
+phase_of z = unsigned_abs (int_rem_euclid z (pos UNIT))
+
+-- the mark of h W, for the operator (W, t), from that of h: a phase s becomes s - 2 h.t
+abbrev pub carried_mark : Row → Operator → Mark → Mark
+carried_mark h f Absent = Absent
+carried_mark h f Free = Free
+carried_mark h f (Phase s) = Phase (phase_of (pos s -ℤ pos 2 *ℤ (h ·ʳᶜ f.t)))
+
+-- the mark of -h from that of h: a phase becomes its opposite
+abbrev pub opposite_mark : Mark → Mark
+opposite_mark Absent = Absent
+opposite_mark Free = Free
+opposite_mark (Phase s) = Phase (phase_of (neg_ℤ (pos s)))

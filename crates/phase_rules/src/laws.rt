@@ -1,13 +1,14 @@
 ghost use Rattle.std.specs.Prelude.{◌≡◌, ◌+◌, ◌*◌, List, length, count_by};
+ghost use Rattle.std.specs.List.{Contains};
 ghost use Rattle.lattice_algebra.specs.Operator.{Operator};
 ghost use Rattle.group_closure.specs.GroupList.{IsGroup};
 ghost use Rattle.phase_rules.specs.declared.pairs.Pairs.{Pairs};
 ghost use Rattle.phase_rules.specs.declared.pairs.Pairs.TheVariants.{Friedel, Apart};
 ghost use Rattle.phase_rules.specs.declared.parts.Mark.{Mark};
 ghost use Rattle.phase_rules.specs.declared.parts.Mark.TheVariants.{Phase};
-ghost use Rattle.phase_rules.specs.Rows.{Row, origin_row};
+ghost use Rattle.phase_rules.specs.Rows.{Row, origin_row, neg_row, ◌·ʳ◌};
 ghost use Rattle.phase_rules.specs.Equivalent.{AreEquivalent, IsClass, fixes, reverses};
-ghost use Rattle.phase_rules.specs.Marks.{IsAbsent, IsMark};
+ghost use Rattle.phase_rules.specs.Marks.{IsAbsent, IsMark, carried_mark, opposite_mark};
 
 /// Each row has a mark.
 pub fn mark_of_index()
@@ -49,6 +50,16 @@ pub fn equivalent_reflections()
         → count_by (fixes h) members ≡ count_by (fixes g) members }
     ensures absent { (pairs : Pairs) (members : List Operator) (h g : Row) → IsGroup members
         → AreEquivalent pairs members h g → IsAbsent members h → IsAbsent members g }
+{}
+
+/// The mark is carried over to h W for each member (W, t), and to -h: where the phase of h is restricted to s, that of h W is to
+/// s - 2 h.t, and that of -h to the opposite, modulo a cell.
+pub fn mark_of_equivalent_reflection()
+    ensures member { (pairs : Pairs) (members : List Operator) (h : Row) (f : Operator) (mark : Mark)
+        → IsGroup members → Contains members f → IsMark pairs members h mark
+        → IsMark pairs members (h ·ʳ f.w) (carried_mark h f mark) }
+    ensures opposite { (pairs : Pairs) (members : List Operator) (h : Row) (mark : Mark)
+        → IsMark pairs members h mark → IsMark pairs members (neg_row h) (opposite_mark mark) }
 {}
 
 /// The reflection 0 0 0 is never absent, and with Friedel's law its phase is 0.

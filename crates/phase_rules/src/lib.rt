@@ -6,7 +6,8 @@
 //! with h W = h; `class_size` is the number of different equivalents, those out of range too. A row has one mark, and so all
 //! members that restrict the phase of a present reflection agree (`mark_of_index`, `one_mark`); each row has a class
 //! (`class_of_index`), whose size is a quotient of numbers of members (`class_size_by_members`). Equivalent reflections are
-//! absent together (`equivalent_reflections`), and 0 0 0 is never absent (`mark_of_origin`).
+//! absent together (`equivalent_reflections`), the mark of one says that of each (`mark_of_equivalent_reflection`), and 0 0 0 is
+//! never absent (`mark_of_origin`).
 #![tactic(auto)]
 
 pub mod halves;
@@ -19,8 +20,8 @@ pub mod tallies;
 
 pub use index::Index;
 pub use laws::{
-    class_of_index, class_size_by_members, equivalent_reflections, mark_of_index, mark_of_origin,
-    one_mark,
+    class_of_index, class_size_by_members, equivalent_reflections, mark_of_equivalent_reflection,
+    mark_of_index, mark_of_origin, one_mark,
 };
 pub use pairs::Pairs;
 pub use reflection::{class_size, fixers, mark};

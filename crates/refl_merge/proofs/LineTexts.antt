@@ -20,16 +20,6 @@ use Rattle.refl_merge.specs.declared.measured.Measured.{Measured}
 use Rattle.data_lines.specs.declared.number.TheConstants.{NUMBER_DIGITS}
 use Rattle.refl_merge.specs.MeasuredLines.{IsMeasuredLine, AreMeasuredLines}
 
--- ---- no more lines are measured than there are
-
-pub few_lines : {lines : List (List ℕ)} {list : List Measured} → AreMeasuredLines lines list → length list ≤ length lines
-few_lines end = omega arith
-few_lines (skipped s rest) = let l = few_lines rest in omega (arith, l)
-few_lines (read d rest) = let l = few_lines rest in omega (arith, l)
-
-pub lines_within : (bytes : List ℕ) → length (lines_of bytes) ≤ length bytes + 1
-lines_within bytes = omega (arith, length-slice_split (λ byte. byte == line_feed) bytes, count_by-le-length (λ byte. byte == line_feed) bytes)
-
 -- ---- what a line writes
 
 module _ (line h k l value : List ℕ) (fields : fields_of line ≡ h ∷ k ∷ l ∷ value ∷ []) where

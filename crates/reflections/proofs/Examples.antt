@@ -20,7 +20,7 @@ use Rattle.phase_rules.specs.Equivalent.{IsSameReflection, AreEquivalent, IsClas
 use Rattle.phase_rules.specs.Marks.{phase_shift, IsAbsent, IsMark}
 use Rattle.tag_walks.specs.Regions.{Region, IsListed, IsTagWalk}
 use Rattle.reflections.specs.declared.line.ClassLine.{ClassLine}
-use Rattle.reflections.specs.Boxes.{Box, IsInBox, IsBoxInRange, ComesBefore, place_of, places}
+use Rattle.reflections.specs.Boxes.{Box, IsInBox, IsBoxInRange, ComesBefore, place_of, places, IsNoLarger}
 use Rattle.reflections.specs.ClassLists.{IsLine, class_region, class_lines, IsClassList, IsOnlyLineOf}
 use Rattle.reflections.specs.Walks.{Walk, IsTagged, IsWalk}
 use Rattle.reflections.proofs.ClassLists.{one_size as one_length}
@@ -327,3 +327,11 @@ walk = record {
 not_begun : IsWalk both (tags_of (true ∷ false ∷ false ∷ [])) [] → ⊥
 unfolding place_of
 not_begun w = let t = (w.tags.tagged (along (pos 1)) (inside (pos 1) (omega arith))).0 refl in lists.not_in_nil t.line t.member
+
+-- ---- boxes of other sizes
+
+no_larger : IsNoLarger (record { h = 1; k = 2; l = 0 }) (record { h = 1; k = 3; l = 0 })
+no_larger = record { h = omega arith; k = omega arith; l = omega arith }
+
+larger : IsNoLarger (record { h = 1; k = 3; l = 0 }) (record { h = 2; k = 2; l = 0 }) → ⊥
+larger n = let k = n.k in omega (arith, k)

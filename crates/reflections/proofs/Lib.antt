@@ -4,3 +4,4 @@ pub mod Walks
 pub mod Tags
 pub mod Whole
 mod Examples
+mod SmallerBoxes

@@ -15,6 +15,12 @@ pub record IsInBox (b : Box) (r : Row) : Type 0 where
   pub k : unsigned_abs r.k ≤ b.k
   pub l : unsigned_abs r.l ≤ b.l
 
+-- each number of the one box is at most that of the other
+pub record IsNoLarger (a b : Box) : Type 0 where
+  pub h : a.h ≤ b.h
+  pub k : a.k ≤ b.k
+  pub l : a.l ≤ b.l
+
 -- how many numbers are at most n in size
 abbrev pub width : ℕ → ℕ
 width n = 2 * n + 1

@@ -1,10 +1,11 @@
 ghost use Rattle.std.specs.Prelude.{◌≡◌, ◌++◌, List};
+ghost use Rattle.std.specs.List.{Contains};
 ghost use Rattle.lattice_algebra.specs.Operator.{Operator};
 ghost use Rattle.group_closure.specs.GroupList.{IsGroup};
 ghost use Rattle.phase_rules.specs.declared.pairs.Pairs.{Pairs};
 ghost use Rattle.phase_rules.specs.Rows.{Row};
 ghost use Rattle.reflections.specs.declared.line.ClassLine.{ClassLine};
-ghost use Rattle.reflections.specs.Boxes.{Box, IsInBox};
+ghost use Rattle.reflections.specs.Boxes.{Box, IsInBox, IsNoLarger};
 ghost use Rattle.reflections.specs.ClassLists.{IsClassList, IsOnlyLineOf};
 ghost use Rattle.reflections.specs.Walks.{Walk, IsWalk};
 
@@ -33,4 +34,12 @@ pub fn lines_taken_are_first()
     ensures { (members : List Operator) (walk : Walk) (taken lines : List ClassLine)
         → IsWalk members walk taken → IsClassList walk.pairs members walk.size lines
         → (rest : List ClassLine) × (lines ≡ taken ++ rest) }
+{}
+
+/// A line of a box whose index is in a box that is no larger is a line of that box too.
+pub fn lines_of_a_smaller_box()
+    ensures { (pairs : Pairs) (members : List Operator) (small big : Box) (a b : List ClassLine)
+        (line : ClassLine) → IsGroup members → IsNoLarger small big
+        → IsClassList pairs members small a → IsClassList pairs members big b
+        → Contains b line → IsInBox small line.index → Contains a line }
 {}

@@ -4,7 +4,8 @@
 //! Proved: the calls of `ClassList::next` give the lines of the class list in order and then None, for the pairs that `begin`
 //! was given; `begin` alone takes memory, a byte for each index. Every box has one class list (`some_class_list`,
 //! `one_class_list`), and for each index of the box one line alone has an equivalent index (`one_line_of_each_class`). The lines
-//! that were taken from a walk are the first of the class list (`lines_taken_are_first`).
+//! that were taken from a walk are the first of the class list (`lines_taken_are_first`), and a line whose index is in a smaller
+//! box is a line of that box too (`lines_of_a_smaller_box`).
 #![tactic(auto)]
 
 mod box_size;
@@ -15,7 +16,10 @@ mod tagging;
 
 pub use box_size::BoxSize;
 pub use class_list::ClassList;
-pub use laws::{lines_taken_are_first, one_class_list, one_line_of_each_class, some_class_list};
+pub use laws::{
+    lines_of_a_smaller_box, lines_taken_are_first, one_class_list, one_line_of_each_class,
+    some_class_list,
+};
 pub use line::ClassLine;
 
 /// The greatest number of a box.

@@ -1,5 +1,5 @@
 -- Counting the points that fit each row, one point after the other.
-use Rattle.std.proofs.Common.{◌≡◌, ◌⊎◌, ◌+◌, ◌<◌, ◌≤◌, ℕ, suc, List, length, get_or, set, replicate, sym, ap, subst, ◌∙◌, arith, ⊎_elim, add-one}
+use Rattle.std.proofs.Common.{◌≡◌, ◌+◌, ◌<◌, ◌≤◌, ℕ, suc, List, length, get_or, set, replicate, sym, ap, subst, ◌∙◌, arith, ⊎_elim, add-one}
 use Rattle.std.proofs.lemmas.Bool.{cases_eq}
 use Rattle.std.proofs.lemmas.Int.{ints}
 use Rattle.std.proofs.lemmas.List.{get_or_default, get_or-set_same, get_or-set_other, length-set, length-replicate, get_or-replicate}
@@ -87,7 +87,7 @@ room_for_one members rows seed n counts k row h at = count_few (λ i. Fits UNIT 
 
 -- ---- as the code has it
 
-abbrev no_row : Row
+abbrev pub no_row : Row
 no_row = record { mult = 0; key = record { m = identity; t = origin } }
 
 -- a count that was read

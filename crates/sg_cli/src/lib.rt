@@ -4,9 +4,10 @@
 //! Proved of `run`, clause by clause: status, output and fault text are those of the answer that the words and the bytes have.
 //! Of bytes that a stream does not tell, as those of the process do not, nothing is said.
 //! There is an answer to all words and bytes (`some_answer`), and one only (`answer_is_unique`). A refusal comes exactly where
-//! it is the first that applies; 3 and 4 come exactly where a read or a write failed in this call. Where nothing fails, the
-//! text is printed whole, or memory is wanted, which is status 9. The rows that are printed are a Wyckoff table of the group
-//! that is asked about, and each class of reflections or orbit of grid points that is asked for has exactly one of the lines.
+//! it is the first that applies; 3 comes exactly where a read failed in this call, and 4 where a write of the output did. Where
+//! nothing fails, the text is printed whole, or memory is wanted, which is status 9. The rows that are printed are a Wyckoff
+//! table of the group that is asked about, and each class of reflections or orbit of grid points that is asked for has exactly
+//! one of the lines.
 //! For `sample` nothing is read, and all of it holds also where a source tells no bytes. Operators that generate one group have
 //! one answer (`answer_of_one_group`), and one text of rows (`rows_of_one_group`).
 #![tactic(auto)]

@@ -1,3 +1,4 @@
 pub mod SpaceOfGroup
 pub mod Shifts
 pub mod FixingLists
+pub mod ConjugatePoints

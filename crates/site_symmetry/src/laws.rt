@@ -5,7 +5,13 @@ ghost use Rattle.lattice_algebra.specs.Map.{Map, ◌∘◌, AreInverse};
 ghost use Rattle.lattice_algebra.specs.Point.{Point, IsPoint, image};
 ghost use Rattle.exact_ops.specs.declared.TheConstants.{UNIT};
 ghost use Rattle.group_closure.specs.GroupList.{IsGroup};
-ghost use Rattle.space_groups.specs.Space.{IsElement, IsInSite, AreConjugate, HaveSameElement};
+ghost use Rattle.space_groups.specs.Space.{
+  IsElement,
+  IsInSite,
+  IsInOrbit,
+  AreConjugate,
+  HaveSameElement,
+};
 ghost use Rattle.site_symmetry.specs.OrderedSite.{IsOrderedSite};
 
 /// No two elements of a site-symmetry group have the same rotation part.
@@ -29,6 +35,23 @@ pub fn conjugate_by_members()
         → (AreConjugate UNIT members x y ↔ ((g : Map) × IsElement UNIT members g
         × ((f : Operator) → Contains members f
         → HaveSameElement UNIT members f (image UNIT g x) y))) }
+{}
+
+/// Being conjugate is an equivalence relation.
+pub fn conjugate_points()
+    ensures itself { (members : List Operator) (x : Point) → IsGroup members
+        → AreConjugate UNIT members x x }
+    ensures back { (members : List Operator) (x y : Point) → IsGroup members
+        → AreConjugate UNIT members x y → AreConjugate UNIT members y x }
+    ensures on { (members : List Operator) (x y z : Point) → IsGroup members
+        → AreConjugate UNIT members x y → AreConjugate UNIT members y z
+        → AreConjugate UNIT members x z }
+{}
+
+/// A point and each point of its orbit are conjugate.
+pub fn conjugate_points_of_an_orbit()
+    ensures { (members : List Operator) (x p : Point) → IsGroup members → IsPoint x → IsPoint p
+        → IsInOrbit UNIT members x p → AreConjugate UNIT members x p }
 {}
 
 /// Each rational point has a list of its site-symmetry group, in the order of the operators.

@@ -11,12 +11,14 @@ ghost use Rattle.space_groups.specs.Keys.{Key};
 ghost use Rattle.space_groups.specs.Rows.{Row, Lies, IsRowList};
 ghost use Rattle.parameter_forms.specs.Forms.{Form, IsParameterForm, IsSameForm, pair_of};
 ghost use Rattle.parameter_forms.specs.Finding.{IsKeptForm};
+ghost use Rattle.reflections.specs.declared.line.ClassLine.{ClassLine};
 ghost use Rattle.reflections.specs.Boxes.{Box};
+ghost use Rattle.reflections.specs.ClassLists.{IsClassList};
 ghost use Rattle.grid_tags.specs.Grids.{Grid, IsGridInRange, IsKept};
 ghost use Rattle.triplet_text.specs.Printing.{affine_text, IsPrintable, IsSameMap};
 ghost use Rattle.table_print.specs.Types.{IsTypeLine};
 ghost use Rattle.table_print.specs.Sites.{IsSiteText};
-ghost use Rattle.table_print.specs.Classes.{IsIndexText, IsBoxText};
+ghost use Rattle.table_print.specs.Classes.{IsClassText, IsIndexText, IsBoxText};
 ghost use Rattle.table_print.specs.Grids.{IsGridText};
 ghost use Rattle.table_print.specs.Rows.{numbers_of_key, row_line};
 ghost use Rattle.table_print.specs.Params.{form_text, GivesForms, IsParamsText, LiesOnText};
@@ -47,6 +49,14 @@ pub fn one_index_text()
     ensures one { (pairs : Pairs) (members : List Operator) (h : indices.Row) (s t : List ℕ)
         → IsGroup members → IsIndexText pairs members h s → IsIndexText pairs members h t
         → s ≡ t }
+{}
+
+/// The line of an index in the text of a box is the text of that index alone.
+pub fn box_lines_are_index_texts()
+    ensures { (pairs : Pairs) (members : List Operator) (box : Box) (lines : List ClassLine)
+        (line : ClassLine) (text : List ℕ) → IsClassList pairs members box lines
+        → Contains lines line → IsClassText line text
+        → IsIndexText pairs members line.index text }
 {}
 
 /// A box has a text of its class list, and one only.

@@ -23,8 +23,14 @@ use Rattle.wyckoff_rows.specs.Steps.{IsEntry, IsAverageNearOrigin, AreKept}
 use Rattle.wyckoff_rows.specs.declared.entry.Entry.{Entry}
 use Rattle.wyckoff_rows.proofs.Meeting.{kept_more}
 
-only_one : (e : Map) → Contains (identity_map ∷ []) e → e ≡ identity_map
+pub only_one : (e : Map) → Contains (identity_map ∷ []) e → e ≡ identity_map
 only_one e c = ⊎_elim (λ p. sym p) (λ p. absurd (lists.not_in_nil e p)) (lists.Contains-cases e identity_map [] c)
+
+-- a list that has the identity alone, once
+pub single : (xs : List Map) → AllPairs (λ e g. e ≢ g) xs → ((e : Map) → Contains xs e ↔ (e ≡ identity_map)) → xs ≡ identity_map ∷ []
+single [] o h = absurd (lists.not_in_nil identity_map ((h identity_map).1 refl))
+single (x ∷ []) o h = ap (λ y. y ∷ []) ((h x).0 (lists.Contains-here x []))
+single (x ∷ y ∷ xs) o h = absurd (o 0 1 x (omega arith) (omega arith) ((h x).0 (lists.Contains-here x (y ∷ xs)) ∙ sym ((h y).0 (lists.Contains-later y x (y ∷ xs) (lists.Contains-here y xs)))))
 
 module _ (members : List Operator) (group : IsGroup members) where
   abbrev L : SpaceGroup
@@ -33,7 +39,7 @@ module _ (members : List Operator) (group : IsGroup members) where
   pub trivial_elements : AreElements members (identity_map ∷ [])
   trivial_elements = All-cons (IsElement UNIT members) identity_map [] (space L).one_in (λ k d l. absurd (omega (arith, l)))
 
-  trivial_sub : IsSub UNIT members (identity_map ∷ [])
+  pub trivial_sub : IsSub UNIT members (identity_map ∷ [])
   trivial_sub = record {
     elements = trivial_elements;
     once = λ i j d l b. absurd (omega (arith, l, b));
@@ -55,17 +61,12 @@ module _ (members : List Operator) (group : IsGroup members) where
   trivial_near a m = record { group = identity_map ∷ []; is_group = trivial_sub; mean = m; shifts = trivial_shifts }
 
   -- what fixes every point is the identity
-  fixes_all : (e : Map) → ((z : ScaledPoint) → moved e z ≡ z) → e ≡ identity_map
+  pub fixes_all : (e : Map) → ((z : ScaledPoint) → moved e z ≡ z) → e ≡ identity_map
   unfolding block_of
   fixes_all e h = ap (λ (b : Block). let f : Map = record { w = b.m; s = b.t } in f) (same_on_points (block_of e) (block_of identity_map) refl (λ y. vec-moved e y ∙ ap vec (h y ∙ sym (moved-identity y)) ∙ sym (vec-moved identity_map y)))
 
   pub trivial_full : (a : Block) (set : List Map) → ((z : ScaledPoint) → IsInImage a z ↔ FixAll (identity_map ∷ []) z) → IsFull UNIT members a set → set ≡ identity_map ∷ []
   trivial_full a set image f = single set f.once (λ e. ((λ c. fixes_all e (λ z. ((f.exactly e).0 c).1 z ((image z).1 (λ x d. subst (λ m. moved m z ≡ z) (sym (only_one x d)) (moved-identity z))))), (λ p. (f.exactly e).1 (subst (IsElement UNIT members) (sym p) (space L).one_in, (λ y i. subst (λ m. moved m y ≡ y) (sym p) (moved-identity y))))))
-    where
-      single : (xs : List Map) → AllPairs (λ e g. e ≢ g) xs → ((e : Map) → Contains xs e ↔ (e ≡ identity_map)) → xs ≡ identity_map ∷ []
-      single [] o h = absurd (lists.not_in_nil identity_map ((h identity_map).1 refl))
-      single (x ∷ []) o h = ap (λ y. y ∷ []) ((h x).0 (lists.Contains-here x []))
-      single (x ∷ y ∷ xs) o h = absurd (o 0 1 x (omega arith) (omega arith) ((h x).0 (lists.Contains-here x (y ∷ xs)) ∙ sym ((h y).0 (lists.Contains-later y x (y ∷ xs) (lists.Contains-here y xs)))))
 
   pub first_kept : (t : Entry) → IsEntry members t → AreKept members (t ∷ [])
   first_kept t h = kept_more members [] t (record { group = group; each = λ k d l. absurd (omega (arith, l)); apart = λ i j d l b. absurd (omega (arith, b)) }) h (λ s c. absurd (lists.not_in_nil s c))

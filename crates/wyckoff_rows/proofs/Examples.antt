@@ -23,6 +23,7 @@ use Rattle.space_groups.specs.Search.{FixAll}
 use Rattle.wyckoff_rows.specs.declared.parts.Row.{Row}
 use Rattle.wyckoff_rows.specs.declared.ranges.Range.{Range}
 use Rattle.wyckoff_rows.specs.declared.spans.Taken.{Taken}
+use Rattle.wyckoff_rows.specs.Laws.{general_row}
 use Rattle.wyckoff_rows.specs.Shown.{row_cmp}
 use Rattle.wyckoff_rows.specs.Spanning.{AreFew, rest_of, taken_column, with_units}
 use Rattle.wyckoff_rows.specs.Spanning as spanning
@@ -277,3 +278,9 @@ no_candidate c = ⊎_elim (λ e. by e) (λ e. by' e) (in_both _ c.element)
 
     by' : inverting ≡ record { w = identity; t = column (pos 12) o o } → ⊥
     by' e = let x : o ≡ pos 12 = ap (λ (f : Operator). f.t.x) e in omega (arith, ints, x)
+
+-- ---- the general position over 4 members
+
+general_of_four : general_row 4 ≡ record { mult = 4; key = record { m = matrix_of (pos 4 ∷ o ∷ o ∷ o ∷ pos 4 ∷ o ∷ o ∷ o ∷ pos 4 ∷ []); t = origin } }
+unfolding scaled
+general_of_four = refl

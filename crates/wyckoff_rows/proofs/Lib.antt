@@ -7,6 +7,8 @@ mod Growing
 mod Meeting
 mod NearFull
 mod Beginning
+mod GeneralRow
+mod RowsOfAverages
 mod Covering
 mod Pushing
 mod Ranging

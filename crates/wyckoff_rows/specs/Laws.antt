@@ -1,5 +1,6 @@
 -- What the laws about tables speak of.
-use Rattle.std.specs.Prelude.{◌≡◌, ℕ, List}
+use Rattle.std.specs.Prelude.{◌≡◌, ℕ, pos, List}
+use Rattle.lattice_algebra.specs.Matrix.{identity, origin, scaled}
 use Rattle.lattice_algebra.specs.Operator.{Operator}
 use Rattle.lattice_algebra.specs.Point.{Point}
 use Rattle.exact_ops.specs.declared.TheConstants.{UNIT}
@@ -18,3 +19,7 @@ pub record IsPlaceOfBoth (members : List Operator) (rows : List Row) (x y : Poin
   pub at : IsAt rows k row
   pub fits : Fits UNIT members row x
   pub fits_too : Fits UNIT members row y
+
+-- the row of the general position, over n members: n points, M the identity and t zero
+abbrev pub general_row : ℕ → Row
+general_row n = record { mult = n; key = record { m = scaled (pos n) identity; t = origin } }

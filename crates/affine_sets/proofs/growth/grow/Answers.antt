@@ -10,7 +10,7 @@ use Rattle.group_closure.proofs.Places.{some_member}
 use Rattle.affine_sets.specs.declared.TheConstants.{MAX_GROWN_SHIFT}
 use Rattle.affine_sets.specs.Growth.{placed_map, given_maps, AreHeld, IsTorn}
 use Rattle.affine_sets.specs.Subs.{IsSubList, AreElements}
-use Rattle.affine_sets.proofs.FirstBlock.{none_held, are_at, are_old, begun, first_shift, rest_shifts, shift_within}
+use Rattle.affine_sets.proofs.FirstBlock.{are_at, are_old, begun, first_shift, rest_shifts, shift_within}
 use Rattle.affine_sets.proofs.GrownGroups.{HasGrown, first_products, given_are, torn_fixes_none, has_grown, grown_elements, grown_generated, grown_sub}
 use Rattle.affine_sets.proofs.growth.grow.Goals.{After-put_all, After-list_held}
 use Rattle.affine_sets.proofs.growth.grow.Goals as goal
@@ -38,7 +38,7 @@ pub hold_elements-requires-clause-empty : goal.hold_elements-requires-clause-emp
 hold_elements-requires-clause-empty c = c.in-Ok.ensures.items
 
 pub hold_elements-requires-clause-none : goal.hold_elements-requires-clause-none
-hold_elements-requires-clause-none c = none_held 192
+hold_elements-requires-clause-none c = c.in_ok-held.ensures
 
 pub index-requires : goal.index-requires
 index-requires c = omega (arith, slice_get_within c.args.s.now 0 identity_map (subst IsSubList c.s.view_is c.s.invariant).first, ap length c.hold_elements.ensures.maps, length-map c.hold_elements.new.old.items (placed_map c.args.g.now), c.hold_elements.new.old.ok.0)

@@ -19,15 +19,6 @@ loop-i-init c = record {
   room = c.requires.room;
 }
 
-pub offset_bounds-held-from : goal.offset_bounds-held-from
-offset_bounds-held-from c = omega (arith, c.from.ensures, c.loop-i-test.true, c.len-i-end.ensures.value, c.len-i-end.ensures.group.within)
-
-pub bounds : goal.bounds
-bounds c = omega (arith, c.from.ensures, c.loop-i-test.true, c.len-i-end.ensures.value, c.len-i-end.ensures.group.within)
-
-pub bounds-held-from : goal.bounds-held-from
-bounds-held-from c = omega (arith, c.from.ensures, c.loop-i-test.true, c.len-i-end.ensures.value, c.len-i-end.ensures.group.within)
-
 pub overflow_cast-i : goal.overflow_cast-i
 overflow_cast-i c = omega (arith, c.loop-i-test.true, c.len-i-end.ensures.value, c.len-i-end.ensures.group.within)
 
@@ -37,7 +28,7 @@ op-requires c = omega (arith, c.loop-i-test.true, c.len-i-end.ensures.value)
 pub invariant_of-push_reserved : goal.invariant_of-push_reserved
 invariant_of-push_reserved c =
     let k = c.in-Some.shift in
-    let small = c.requires.small c.from.result k c.in-Some.is in
+    let small = c.requires.small c.loop-i.i k (sym c.shift_at.ensures ∙ c.in-Some.is) in
     record { in_range = subst (λ (v : Column). AreWithin MAX_SHIFT v.x v.y v.z) (sym (passed_offset k small)) small }
 
 pub push_reserved-requires : goal.push_reserved-requires
@@ -48,14 +39,13 @@ loop-i-preserved c =
     let g = c.args.g.now in
     let i = c.loop-i.i in
     let was = c.loop-i.invariant in
-    let place : c.from.result ≡ i = c.from.ensures in
-    elim c.match-held-from.branch [
+    elim c.match-shift_at.branch [
       | in-Some w ↦
           let k = w.in-Some.shift in
-          let at : slice_index_or c.args.held.now i None ≡ Some k = ap (λ p. slice_index_or c.args.held.now p None) (sym place) ∙ w.in-Some.is in
+          let at : slice_index_or c.args.held.now i None ≡ Some k = sym c.shift_at.ensures ∙ w.in-Some.is in
           let items = ap (λ (v : Vec Move Global). v.items) w.moves-is ∙ w.push_reserved.ensures.items in
           record {
-            listed = one_listed g c.len-i-end.ensures.group c.args.held.now i k c.loop-i.moves.items c.match-held-from.moves.items _ items w.op.ensures.value (passed_offset k (c.requires.small i k at)) (omega (arith, c.loop-i-test.true, c.len-i-end.ensures.value)) was.listed at;
+            listed = one_listed g c.len-i-end.ensures.group c.args.held.now i k c.loop-i.moves.items c.match-shift_at.moves.items _ items w.op.ensures.value (passed_offset k (c.requires.small i k at)) (omega (arith, c.loop-i-test.true, c.len-i-end.ensures.value)) was.listed at;
             within = omega (arith, ap (λ (v : Vec Move Global). vec_len v) w.moves-is, w.push_reserved.ensures.len, was.within);
             room = omega (arith, ap (λ (v : Vec Move Global). vec_capacity v) w.moves-is, w.push_reserved.ensures.capacity, was.room);
           }
@@ -63,7 +53,7 @@ loop-i-preserved c =
           let f = some_at g i (omega (arith, c.loop-i-test.true, c.len-i-end.ensures.value)) in
           record {
             listed = subst (λ (v : Vec Move Global). ArePicked g (HoldsMap g c.args.held.now) (i + 1) (map map_in v.items)) (sym w.moves-is)
-                (none_held g c.len-i-end.ensures.group c.args.held.now i f.0 (map map_in c.loop-i.moves.items) was.listed f.1 (ap (λ p. slice_index_or c.args.held.now p None) (sym place) ∙ w.in_default.is));
+                (none_held g c.len-i-end.ensures.group c.args.held.now i f.0 (map map_in c.loop-i.moves.items) was.listed f.1 (sym c.shift_at.ensures ∙ w.in_default.is));
             within = omega (arith, ap (λ (v : Vec Move Global). vec_len v) w.moves-is, was.within);
             room = omega (arith, ap (λ (v : Vec Move Global). vec_capacity v) w.moves-is, was.room);
           }

@@ -13,13 +13,13 @@ returns-then-byte-lt48 c = digits_line c.args.text.now c.loop-rest.rest.now c.lo
 pub overflow_mul-n : goal.overflow_mul-n
 overflow_mul-n c =
     let h = c.loop-rest.invariant.digits in
-    let few = small c.args.text.now c.loop-rest.rest.now c.loop-rest.n h (less c.args.text.now c.loop-rest.rest.now c.loop-rest.n h c.if-taken-eq-VALUE_DIGITS.false) in
+    let few = small c.args.text.now c.loop-rest.rest.now c.loop-rest.n h (less c.args.text.now c.loop-rest.rest.now c.loop-rest.n h c.if-taken-eq-NUMBER_DIGITS.false) in
     omega (arith, few)
 
 pub overflow_add-n : goal.overflow_add-n
 overflow_add-n c =
     let h = c.loop-rest.invariant.digits in
-    let few = small c.args.text.now c.loop-rest.rest.now c.loop-rest.n h (less c.args.text.now c.loop-rest.rest.now c.loop-rest.n h c.if-taken-eq-VALUE_DIGITS.false) in
+    let few = small c.args.text.now c.loop-rest.rest.now c.loop-rest.n h (less c.args.text.now c.loop-rest.rest.now c.loop-rest.n h c.if-taken-eq-NUMBER_DIGITS.false) in
     let digit : c.from.result < 10 = grind (arith, common_steps) in
     omega (arith, few, digit)
 
@@ -27,4 +27,4 @@ pub loop-rest-preserved : goal.loop-rest-preserved
 loop-rest-preserved c =
     let h = c.loop-rest.invariant.digits in
     let digit : is_digit (get_or c.loop-rest.rest.now 0 0) ≡ true = grind (arith, common_steps) in
-    record { digits = rw c.from.ensures (one_more c.args.text.now c.loop-rest.rest.now c.loop-rest.n h c.in-len1-up.len_at_least (less c.args.text.now c.loop-rest.rest.now c.loop-rest.n h c.if-taken-eq-VALUE_DIGITS.false) digit) }
+    record { digits = rw c.from.ensures (one_more c.args.text.now c.loop-rest.rest.now c.loop-rest.n h c.in-len1-up.len_at_least (less c.args.text.now c.loop-rest.rest.now c.loop-rest.n h c.if-taken-eq-NUMBER_DIGITS.false) digit) }

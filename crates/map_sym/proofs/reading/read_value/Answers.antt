@@ -1,8 +1,12 @@
-use Rattle.map_sym.proofs.ValueLaws.{value_fits, value_line}
+use Rattle.std.proofs.Common.{sym, subst, to_z-of_z}
+use Rattle.triplet_text.specs.Integers.{IsInteger}
+use Rattle.data_lines.specs.declared.number.TheConstants.{NUMBER_DIGITS}
+use Rattle.data_lines.proofs.Numbers.{narrow}
 use Rattle.map_sym.proofs.reading.read_value.Goals as goal
 
-pub overflow_cast-result : goal.overflow_cast-result
-overflow_cast-result c = value_fits c.in_ok-field.field.now c.in_ok-value.value c.in_ok-value.ensures.some
-
 pub returns-clause-some : goal.returns-clause-some
-returns-clause-some c = value_line c.in_ok-field.field.now c.in_ok-value.value c.in_ok-value.ensures.some c.args.line.now c.in_ok-field.ensures.some
+returns-clause-some c =
+    let field = c.in_ok-field.field.now in
+    let value = c.in_ok-value.value in
+    let is = c.in_ok-value.ensures.some in
+    record { field = field; is_field = c.in_ok-field.ensures.some; is_value = subst (IsInteger NUMBER_DIGITS field) (sym (to_z-of_z (narrow field value is))) is }
