@@ -3,6 +3,7 @@ ghost use Rattle.page_print.specs.declared.index.TheConstants.{INDEX_TEXT};
 ghost use Rattle.page_print.specs.declared.page.TheConstants.{PAGE_ROOM};
 ghost use Rattle.page_print.specs.Lines.{AddsSuch};
 ghost use Rattle.page_print.specs.Printing.{Prints, GathersText};
+ghost use Rattle.page_print.specs.Parts.{index_text};
 ghost use Rattle.reflections.specs.declared.line.ClassLine.{ClassLine};
 ghost use Rattle.reflections.specs.Walks.{IsWalk};
 ghost use Rattle.table_print.specs.Classes.{mark_text, IsClassText, IsIndexText, IsBoxText, IsOver};
@@ -89,7 +90,7 @@ fn push_class(line: &ClassLine, page: &mut Page)
     requires { length page.old + CLASS_LINE ≤ PAGE_ROOM }
     ensures { AddsSuch (IsClassText line.now) page.old page.new }
 {
-    push_index(line.index.h, line.index.k, line.index.l, page);
+    push_index_of(&line.index, page);
     page.push(b" ");
     page.push(Buffer::new().format(line.size).as_bytes());
     page.push(b" ");
@@ -97,6 +98,14 @@ fn push_class(line: &ClassLine, page: &mut Page)
     page.push(b" ");
     push_mark(line.mark, page);
     page.push(b"\n");
+}
+
+fn push_index_of(index: &Index, page: &mut Page)
+    requires { length page.old + INDEX_TEXT ≤ PAGE_ROOM }
+    ensures text { let h = index.now in page.new ≡ page.old ++ index_text h.h h.k h.l }
+    ensures short { length page.new ≤ length page.old + INDEX_TEXT }
+{
+    push_index(index.h, index.k, index.l, page);
 }
 
 fn push_mark(mark: Mark, page: &mut Page)

@@ -61,6 +61,7 @@ impl Listed for ElementLines<'_> {
     }
 
     fn push_line(&self, at: u32, page: &mut Page) {
+        prove!(at < self.site.len() as u32);
         push_element(&self.site.get(at as u16), page);
     }
 }
@@ -88,6 +89,7 @@ impl Listed for PointLines<'_> {
     }
 
     fn push_line(&self, at: u32, page: &mut Page) {
+        prove!(at < self.orbit.len() as u32);
         push_point(&self.orbit.get(at as u16), page);
     }
 }
