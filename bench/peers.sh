@@ -62,6 +62,9 @@ essence() {
     case $1 in
         wyckoff) awk '{ print $2 }' ;;
         refl) awk '{ print $4, $5, $6 }' ;;
+        atoms) grep -c '^at ' ;;
+        merge) awk 'NF == 6 { print $4, $5, $6 }' ;;
+        map) grep -v '^total ' ;;
         *) cat ;;
     esac | sort
 }
@@ -158,6 +161,34 @@ inputs=("$made"/settings/*)
 for words in ops types wyckoff 'refl 6 6 6' 'grid 12 12 12'; do
     # shellcheck disable=SC2086
     race "\`$words\`, each of ${#inputs[@]} settings" $words
+done
+
+# with_data NAME KIND COUNT : the file of a setting with so many pseudorandom data lines behind it
+with_data() {
+    local file=$made/$2.${1%% *}
+    {
+        cat "$(setting "$1")"
+        echo %%
+        awk -v kind="$2" -v count="$3" '
+            function number(size) { return int((2 * size + 1) * rand()) - size }
+            BEGIN {
+                srand(1)
+                for (i = 1; i <= count; i++)
+                    if (kind == "atoms") printf "A%d %.6f %.6f %.6f\n", i, rand(), rand(), rand()
+                    else if (kind == "merge") print number(9), number(9), number(9), number(1000)
+                    else print int(10 * rand())
+            }'
+    } >"$file"
+    echo "$file"
+}
+
+for name in '14 P 1 21/c 1' '225 F m -3 m'; do
+    inputs=("$(with_data "$name" atoms 1000)")
+    race "\`atoms\`, 1,000 sites, $name" atoms
+    inputs=("$(with_data "$name" merge 80000)")
+    race "\`merge\`, 80,000 lines, $name" merge
+    inputs=("$(with_data "$name" map 262144)")
+    race "\`map 64 64 64\`, $name" map 64 64 64
 done
 
 # table TITLE FILE
