@@ -20,6 +20,10 @@ cc -std=c99 $warnings -O1 -fsanitize=address,undefined -o "$made/static" $(pkg-c
 "$made/shared"
 "$made/static"
 
+# Random calls, between guards.
+cc -std=c99 $warnings -O1 -fsanitize=address,undefined -o "$made/random" $(pkg-config --cflags sg) checks/library_random.c "$folder/lib/libsg.a"
+"$made/random" 1 20000
+
 # The program that the document shows.
 awk '/^```c$/ { shown = 1; next } /^```$/ { shown = 0 } shown' docs/library.md >"$made/shown.c"
 cc -std=c99 $warnings -o "$made/shown" $(pkg-config --cflags sg) "$made/shown.c" "$folder/lib/libsg.a"
