@@ -91,8 +91,8 @@ works() {
 # ---- below DESTDIR, and taken away again
 
 installed_and_removed() {
-    local folder=$made/packaged/opt/sg file modules=''
-    holds 'installing below DESTDIR' env DESTDIR="$made/packaged" bin/install /opt/sg
+    local folder=$made/packaged/usr/local file modules=''
+    holds 'installing below DESTDIR' env DESTDIR="$made/packaged" bin/install /usr/local
     cp "$made/said" "$made/told"
     while IFS= read -r file; do
         holds "$file is there" test -f "$made/packaged$file"
@@ -101,10 +101,10 @@ installed_and_removed() {
     find "$made/packaged" -type f | sed "s|^$made/packaged|installed |" | grep -v '/share/sg/installed$' | sort >"$made/found"
     holds 'each file is told' cmp "$made/found" <(grep '^installed ' "$made/told" | sort)
     works 'below DESTDIR' "$folder" "$modules"
-    holds 'installing once more' env DESTDIR="$made/packaged" bin/install /opt/sg
-    holds 'removing' env DESTDIR="$made/packaged" bin/install --remove /opt/sg
-    holds 'nothing is left' prints '' find "$made/packaged/opt/sg" -mindepth 1
-    holds 'nothing to remove' fails env DESTDIR="$made/packaged" bin/install --remove /opt/sg
+    holds 'installing once more' env DESTDIR="$made/packaged" bin/install /usr/local
+    holds 'removing' env DESTDIR="$made/packaged" bin/install --remove /usr/local
+    holds 'nothing is left' prints '' find "$made/packaged/usr/local" -mindepth 1
+    holds 'nothing to remove' fails env DESTDIR="$made/packaged" bin/install --remove /usr/local
 }
 
 # ---- into a folder of its own, beside what others have there
